@@ -1,0 +1,14 @@
+pub mod TestLaws
+pub mod RangeLaws
+pub mod MadeLaws
+pub mod TableLaws
+pub mod NumberLaws
+pub mod FamilyLaws
+pub mod GridLaws
+pub mod PointLaws
+pub mod RelationLaws
+pub mod SpanLaws
+pub mod WindowLaws
+pub mod BlockLaws
+pub mod CoverLaws
+pub mod PointTheorems

@@ -1,0 +1,122 @@
+-- A sheet number is a place of a scale: the scales' ranges of numbers follow one another, and within one a place is an index. Assumes nothing.
+use mathlib.Core.Path.{_≡_, refl, sym, ap, _∙_, subst}
+use mathlib.Core.Bool.{true, false}
+use mathlib.Core.Logic.{⊎-elim}
+use Prim.Native.Nat.{ℕ, zero, suc, _+_, _-_, _*_, _≤_, _<_}
+use native.Mathlib.Nat.{le-refl, eq-or-lt-of-le, le-of-suc-le-suc}
+use native.Mathlib.Omega.{arith}
+use borrow.Author.Tests.{le-leb, lt-leb, leb-true, ltb-true}
+use lib.ListN.{length}
+use Rattle.division.specs.declared.Place.{Place}
+use Rattle.division.specs.Words.{_≤?_, _<?_, from, keep}
+use Rattle.division.specs.Table.{table, tableRow, rowsOf, columnsOf, made, rows, columns, sheets, first}
+use Rattle.division.specs.Sheet.{isSheet, onGrid, indexAt, sheetOf, scaleOf, indexOf, placeOf}
+use Rattle.division.specs.Given.{IsScale, OnGrid, Indexed}
+use Rattle.division.proofs.TestLaws.{both, le-or-less}
+use Rattle.division.proofs.RangeLaws.{length-from, keep-range}
+use Rattle.division.proofs.MadeLaws.{On, index<, place-index, on-place, index-place}
+use Rattle.division.proofs.TableLaws.{before, rules, all-sheets}
+
+-- ---- the scale of a sheet
+
+before-rises : (a b : ℕ) → a ≤ b → before a ≤ before b
+before-rises a zero h = let e : a ≡ 0 = omega arith in rw e (le-refl 0)
+before-rises a (suc b) h =
+    ⊎-elim (λ e. rw e (le-refl (before (suc b)))) (λ k. omega (arith, before-rises a b (le-of-suc-le-suc k))) (eq-or-lt-of-le h)
+
+-- a number in the range of a scale
+pub record Ranged (s n : ℕ) : Type 0 where
+  pub scale : IsScale s
+  pub low : first s ≤ n
+  pub high : n < first s + sheets s
+
+-- is a sheet of that scale
+pub scale-is : (s n : ℕ) → Ranged s n → scaleOf n ≡ s
+unfolding scaleOf
+scale-is s n r =
+    let e : 0 + (s + (9 - s)) ≡ 9 = omega (arith, r .scale .nine) in
+    let k : keep (λ c. first c ≤? n) (from 1 (0 + (s + (9 - s)))) ≡ from 1 s = keep-range (λ c. first c ≤? n) 1 0 s (9 - s) (λ c h l. absurd (omega arith)) begun later in
+    ap length (rw e at k) ∙ length-from 1 s
+  where
+    begun : (c : ℕ) → 1 + 0 ≤ c → c < 1 + 0 + s → (first c ≤? n) ≡ true
+    begun c h l =
+        let i : IsScale c = record { one = omega arith; nine = omega (arith, r .scale .nine) } in
+        le-leb (first c) n (omega (arith, rules i .begins, rules (r .scale) .begins, before-rises c s (omega arith), r .low))
+
+    later : (c : ℕ) → 1 + 0 + s ≤ c → c < 1 + 0 + s + (9 - s) → (first c ≤? n) ≡ false
+    later c h l =
+        let i : IsScale c = record { one = omega arith; nine = omega (arith, r .scale .nine) } in
+        lt-leb (first c) n (omega (arith, rules i .begins, rules (r .scale) .ends, before-rises (suc s) c (omega arith), r .high))
+
+-- the first scale begins at 0, and none is before it
+before-one : before 1 ≡ 0
+unfolding table tableRow rowsOf columnsOf
+before-one = refl
+
+-- every number below the end of a scale is in the range of that scale or of one before it
+find : (k n : ℕ) → k ≤ 9 → n < before (suc k) → (s : ℕ) × Ranged s n
+find zero n g h = absurd (omega (arith, before-one))
+find (suc k) n g h =
+    let i : IsScale (suc k) = record { one = omega arith; nine = g } in
+    ⊎-elim (λ l. (suc k, record { scale = i; low = l; high = omega (arith, rules i .ends) }))
+    (λ l. find k n (omega arith) (omega (arith, rules i .begins)))
+    (le-or-less (first (suc k)) n)
+
+-- the last scale ends with the last sheet; a number before a scale is before the end of the scale before it
+pub ends-last : first 9 + sheets 9 ≡ 7_953_174
+unfolding table tableRow rowsOf columnsOf
+ends-last = refl
+
+pub falls : (s n : ℕ) → IsScale s → n < first s → IsScale (s - 1) × (n < first (s - 1) + sheets (s - 1))
+falls zero n h l = absurd (omega (arith, h .one))
+falls (suc zero) n h l = absurd (omega (arith, before-one, rules h .begins))
+falls (suc (suc k)) n h l =
+    let i : IsScale (suc k) = record { one = omega arith; nine = omega (arith, h .nine) } in
+    let e : suc (suc k) - 1 ≡ suc k = omega arith in
+    rw e (i, omega (arith, rules h .begins, rules i .ends))
+
+-- ---- sheet and place undo each other
+
+module _ (n : ℕ) (h : isSheet n ≡ true) where
+  pub ranged : Ranged (scaleOf n) n
+  ranged =
+      let f = find 9 n (le-refl 9) (omega (arith, leb-true n 7_953_173 h, all-sheets)) in
+      subst (λ (s : ℕ). Ranged s n) (sym (scale-is (f .0) n (f .1))) (f .1)
+
+  pub indexed : Indexed (scaleOf n) (indexOf n)
+  indexed = record { scale = ranged .scale; in-sheets = omega (arith, ranged .low, ranged .high) }
+
+  pub on-grid : OnGrid (scaleOf n) (placeOf n)
+  on-grid =
+      let o = on-place (made (scaleOf n)) (indexOf n) (rules (ranged .scale) .sound) (indexed .in-sheets) in
+      record { scale = ranged .scale; in-rows = o .in-rows; in-columns = o .in-columns }
+
+  pub sheet-place : sheetOf (scaleOf n) (placeOf n) ≡ n
+  sheet-place = omega (arith, index-place (made (scaleOf n)) (indexOf n) (rules (ranged .scale) .sound), ranged .low)
+
+-- the test of a place
+pub placed : {s : ℕ} → IsScale s → (p : Place) → onGrid s p ≡ true → OnGrid s p
+placed {s} h p e =
+    let b = both (p .row <? rows s) (p .column <? columns s) e in
+    record { scale = h; in-rows = ltb-true (p .row) (rows s) (b .0); in-columns = ltb-true (p .column) (columns s) (b .1) }
+
+module _ {s : ℕ} {p : Place} (o : OnGrid s p) where
+  on : On (made s) p
+  on = record { in-rows = o .in-rows; in-columns = o .in-columns }
+
+  pub index-few : indexAt (made s) p < sheets s
+  index-few = index< (made s) p (rules (o .scale) .sound) on
+
+  sheet-ranged : Ranged s (sheetOf s p)
+  sheet-ranged = record { scale = o .scale; low = omega arith; high = omega (arith, index-few) }
+
+  pub scale-sheet : scaleOf (sheetOf s p) ≡ s
+  scale-sheet = scale-is s (sheetOf s p) sheet-ranged
+
+  pub place-sheet : placeOf (sheetOf s p) ≡ p
+  place-sheet =
+      let e : sheetOf s p - first s ≡ indexAt (made s) p = omega arith in
+      rw (scale-sheet, e) (place-index (made s) p (rules (o .scale) .sound) on)
+
+  pub is-sheet : isSheet (sheetOf s p) ≡ true
+  is-sheet = le-leb (sheetOf s p) 7_953_173 (omega (arith, index-few, rules (o .scale) .low))

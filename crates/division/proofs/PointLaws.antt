@@ -1,0 +1,51 @@
+-- A point of the area lies in one row and one column of each scale. Assumes nothing.
+use mathlib.Core.Path.{_≡_, refl, sym, ap, _∙_}
+use mathlib.Core.Bool.{Bool, true, false, _&&_}
+use Prim.Native.Nat.{ℕ, _+_, _-_, _*_, _/_, _≤_, _<_}
+use native.Mathlib.Omega.{arith}
+use lib.IntN.{ℤ, pos}
+use Rattle.division.specs.declared.Place.{Place}
+use Rattle.division.specs.Words.{_≤ᶻ_, _<ᶻ_}
+use Rattle.division.specs.Table.{isScale}
+use Rattle.division.specs.Grid.{area, owns, columnAt, rowAt}
+use Rattle.division.specs.Given.{IsScale, OnGrid, Across, Down}
+use Rattle.division.proofs.TestLaws.{both}
+use Rattle.division.proofs.GridLaws.{East, North, east, north, column-in, row-in}
+
+-- the four tests of ownership, one by one
+pub record Owned (w e s n x y : ℤ) : Type 0 where
+  pub west : (w ≤ᶻ x) ≡ true
+  pub east : (x <ᶻ e) ≡ true
+  pub south : (s <ᶻ y) ≡ true
+  pub north : (y ≤ᶻ n) ≡ true
+
+pub owned : (w e s n x y : ℤ) → ((w ≤ᶻ x && x <ᶻ e) && (s <ᶻ y && y ≤ᶻ n)) ≡ true → Owned w e s n x y
+owned w e s n x y o =
+    let b = both (w ≤ᶻ x && x <ᶻ e) (s <ᶻ y && y ≤ᶻ n) o in
+    let c = both (w ≤ᶻ x) (x <ᶻ e) (b .0) in
+    let d = both (s <ᶻ y) (y ≤ᶻ n) (b .1) in
+    record { west = c .0; east = c .1; south = d .0; north = d .1 }
+
+-- a scale, and a point of the area
+pub record Inside (s : ℕ) (e n : ℤ) : Type 0 where
+  pub scale : IsScale s
+  pub tests : Owned (area .west) (area .east) (area .south) (area .north) e n
+
+module _ {s : ℕ} {e n : ℤ} (i : Inside s e n) where
+  pub across : Across s e
+  across = record { scale = i .scale; west = i .tests .west; east = i .tests .east }
+
+  pub down : Down s n
+  down = record { scale = i .scale; south = i .tests .south; north = i .tests .north }
+
+  pub x : East e
+  x = east e (i .tests .west) (i .tests .east)
+
+  pub y : North n
+  y = north n (i .tests .south) (i .tests .north)
+
+  pub point-on : OnGrid s (record { row = rowAt s n; column = columnAt s e })
+  point-on = record { scale = i .scale; in-rows = row-in (i .scale) y; in-columns = column-in (i .scale) x }
+
+pub inside : {s : ℕ} → IsScale s → (e n : ℤ) → owns area e n ≡ true → Inside s e n
+inside h e n o = record { scale = h; tests = owned (area .west) (area .east) (area .south) (area .north) e n o }

@@ -1,0 +1,50 @@
+-- A line that is cut into cells of a size: a stretch of it meets the cells from its first number's to its last number's. Assumes nothing.
+use mathlib.Core.Path.{_≡_, _∙_}
+use mathlib.Core.Bool.{Bool, true, false, _&&_, and-false}
+use Prim.Native.Nat.{ℕ, _+_, _-_, _*_, _/_, _≤_, _<_}
+use native.Mathlib.Nat.{le-div-iff-mul-le, div-lt-iff-lt-mul, div-le-self, div-add-mod', zero-add}
+use native.Mathlib.Omega.{arith}
+use borrow.Author.Tests.{lt-ltb, le-ltb}
+use Rattle.division.specs.Words.{_<?_, from, keep}
+use Rattle.division.specs.Given.{Stretch, spanOf, Run}
+use Rattle.division.proofs.RangeLaws.{keep-range}
+use Rattle.division.proofs.MadeLaws.{quot}
+
+-- cell c begins before the stretch from a up to b ends, and ends after it begins
+abbrev pub meets : ℕ → ℕ → ℕ → ℕ → Bool
+meets a b size c = c * size <? b && a <? (c + 1) * size
+
+module _ {a b size : ℕ} (t : Stretch a b size) where
+  pub ordered : a / size ≤ (b - 1) / size
+  ordered = le-div-iff-mul-le (t .some) .1 (omega (arith, div-add-mod' a size, t .rises))
+
+  pub small : (b - 1) / size < 600_000_000
+  small = omega (arith, div-le-self (b - 1) size, t .short, t .rises)
+
+  -- so a test for the cells that it meets keeps its span of the line
+  module _ (count : ℕ) (full : count * size ≡ 600_000_000) (f : ℕ → Bool) (tests : (c : ℕ) → c < count → f c ≡ meets a b size c) where
+    reach : (b - 1) / size < count
+    reach = quot (t .some) (omega (arith, t .rises, t .short))
+
+    outside : (c : ℕ) → 0 ≤ c → c < 0 + a / size → f c ≡ false
+    outside c z l =
+        let e : (c + 1) * size ≤ a = le-div-iff-mul-le (t .some) .0 (omega arith) in
+        tests c (omega (arith, reach, ordered)) ∙ rw (le-ltb a ((c + 1) * size) e) (and-false (c * size <? b))
+
+    met : (c : ℕ) → 0 + a / size ≤ c → c < 0 + a / size + spanOf a b size .count → f c ≡ true
+    met c h l =
+        let x : c * size ≤ b - 1 = le-div-iff-mul-le (t .some) .0 (omega (arith, ordered)) in
+        let y : a < (c + 1) * size = div-lt-iff-lt-mul (t .some) .0 (omega arith) in
+        tests c (omega (arith, reach, ordered)) ∙ rw (lt-ltb (c * size) b (omega (arith, t .rises)), lt-ltb a ((c + 1) * size) y)
+
+    past : (c : ℕ) → 0 + a / size + spanOf a b size .count ≤ c → c < count → f c ≡ false
+    past c h l =
+        let e : b - 1 < c * size = div-lt-iff-lt-mul (t .some) .0 (omega (arith, ordered)) in
+        tests c l ∙ rw (le-ltb (c * size) b (omega arith))
+
+    pub span-run : Run (keep f (from 0 count)) count (spanOf a b size)
+    span-run =
+        let rest = count - (a / size + spanOf a b size .count) in
+        let e : a / size + (spanOf a b size .count + rest) ≡ count = omega (arith, reach, ordered) in
+        let k : keep f (from 0 (a / size + (spanOf a b size .count + rest))) ≡ from (0 + a / size) (spanOf a b size .count) = keep-range f 0 (a / size) (spanOf a b size .count) rest outside met (λ c h l. past c h (omega arith)) in
+        record { listed = rw (e, zero-add (a / size)) at k; inside = omega (arith, reach, ordered) }

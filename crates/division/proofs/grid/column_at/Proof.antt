@@ -1,0 +1,39 @@
+-- The distance from the west edge, cut into widths, is a column of the grid. Assumes nothing.
+use mathlib.Core.Path.{_≡_, _∙_}
+use native.Mathlib.Omega.{arith}
+use borrow.Author.Needs.{needs}
+use Rattle.division.specs.Table.{width}
+use Rattle.division.specs.Grid.{millimetres, columnAt}
+use Rattle.division.proofs.TestLaws.{back}
+use Rattle.division.proofs.TableLaws.{rules}
+use Rattle.division.proofs.GridLaws.{some-width, east, column-in}
+use Rattle.division.proofs.grid.column_at.Statement.{statement}
+use Rattle.division.proofs.grid.column_at.Tie as tie
+
+row-requires : tie.Need-row-requires
+row-requires c κs = search needs
+
+millimetres-requires : tie.Need-millimetres-requires
+millimetres-requires c κs = search needs
+
+distance-requires : tie.Need-distance-requires
+distance-requires c κs = search needs
+
+size : (c : tie.After-millimetres) → c .millimetres .result ≡ millimetres (width (c .before .before .args .s))
+size c = rw (c .before .row .ensures) at (c .millimetres .ensures)
+
+div-result : tie.Need-div-result
+div-result c = rw (size (c .before .before)) (some-width (c .before .before .before .before .pre .scale))
+
+returns : tie.Need-returns
+returns c = rw (size (c .before .before), c .distance .ensures, back (c .before .before .before .before .fits .e))
+
+cast-result : tie.Need-cast-result
+cast-result c =
+    let a = c .before .before .before .before in
+    omega (arith, returns c, column-in (a .pre .scale) (east (a .args .e) (a .pre .west) (a .pre .east)), rules (a .pre .scale) .few-columns)
+
+pub column-at-spec : {M : Type 1} → statement M
+column-at-spec =
+    tie.close
+    (tie.spec row-requires millimetres-requires distance-requires div-result cast-result returns)

@@ -1,0 +1,41 @@
+-- The distance from the north edge, cut into heights, is a row of the grid. Assumes nothing.
+use mathlib.Core.Path.{_≡_, _∙_}
+use native.Mathlib.Omega.{arith}
+use borrow.Author.Needs.{needs}
+use Rattle.division.specs.Table.{height}
+use Rattle.division.specs.Grid.{millimetres, rowAt}
+use Rattle.division.proofs.TestLaws.{back, below-pos}
+use Rattle.division.proofs.TableLaws.{rules}
+use Rattle.division.proofs.GridLaws.{some-height, north, row-in}
+use Rattle.division.proofs.grid.row_at.Statement.{statement}
+use Rattle.division.proofs.grid.row_at.Tie as tie
+
+row-requires : tie.Need-row-requires
+row-requires c κs = search needs
+
+millimetres-requires : tie.Need-millimetres-requires
+millimetres-requires c κs = search needs
+
+distance-requires : tie.Need-distance-requires
+distance-requires c κs =
+    let a = c .before .before .before in
+    rw (back (a .fits .n)) (record { plain = below-pos 4_570_000_000 (a .args .n) (a .pre .south); rises = a .pre .north })
+
+size : (c : tie.After-millimetres) → c .millimetres .result ≡ millimetres (height (c .before .before .args .s))
+size c = rw (c .before .row .ensures) at (c .millimetres .ensures)
+
+div-result : tie.Need-div-result
+div-result c = rw (size (c .before .before)) (some-height (c .before .before .before .before .pre .scale))
+
+returns : tie.Need-returns
+returns c = rw (size (c .before .before), c .distance .ensures, back (c .before .before .before .before .fits .n))
+
+cast-result : tie.Need-cast-result
+cast-result c =
+    let a = c .before .before .before .before in
+    omega (arith, returns c, row-in (a .pre .scale) (north (a .args .n) (a .pre .south) (a .pre .north)), rules (a .pre .scale) .few-rows)
+
+pub row-at-spec : {M : Type 1} → statement M
+row-at-spec =
+    tie.close
+    (tie.spec row-requires millimetres-requires distance-requires div-result cast-result returns)

@@ -1,0 +1,23 @@
+-- The block is its three rows. Assumes nothing.
+use borrow.Author.Needs.{needs}
+use Rattle.division.specs.Relations.{neighbours}
+use Rattle.division.proofs.relations.neighbours.Statement.{statement}
+use Rattle.division.proofs.relations.neighbours.Tie as tie
+
+neighbour-row-requires : tie.Need-neighbour-row-requires
+neighbour-row-requires c κs = search needs
+
+neighbour-row-requires-2 : tie.Need-neighbour-row-requires-2
+neighbour-row-requires-2 c κs = search needs
+
+neighbour-row-requires-3 : tie.Need-neighbour-row-requires-3
+neighbour-row-requires-3 c κs = search needs
+
+returns : tie.Need-returns
+unfolding neighbours
+returns c = rw (c .neighbour-row3 .ensures, c .before .neighbour-row2 .ensures, c .before .before .neighbour-row .ensures)
+
+pub neighbours-spec : {M : Type 1} → statement M
+neighbours-spec =
+    tie.close
+    (tie.spec neighbour-row-requires neighbour-row-requires-2 neighbour-row-requires-3 returns)

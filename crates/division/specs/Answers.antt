@@ -1,0 +1,31 @@
+-- The code's answers on paper. Document 01, "What to write where".
+use Prim.Native.Nat.{ℕ}
+use Rattle.refusal.specs.Paper.{Paper, answer}
+use Rattle.refusal.specs.Numbers.{onPaper}
+use Rattle.division.specs.declared.Edges.{Edges}
+use Rattle.division.specs.declared.Offset.{Offset}
+use Rattle.division.specs.declared.Spot.{Spot}
+use Rattle.division.specs.declared.Found.{Found}
+use Rattle.division.specs.declared.Found.the-variants as found
+use Rattle.division.specs.declared.Located.{Located}
+use Rattle.division.specs.declared.Located.the-variants as located
+use Rattle.division.specs.declared.Corners.{Corners}
+use Rattle.division.specs.declared.Corners.the-variants as corners
+use Rattle.division.specs.declared.Apart.{Apart}
+use Rattle.division.specs.declared.Apart.the-variants as apart
+
+abbrev pub sheetPaper : Found → Paper ℕ
+sheetPaper (found.Sheet n) = answer n
+sheetPaper (found.Refused why) = onPaper why
+
+abbrev pub spotPaper : Located → Paper Spot
+spotPaper (located.At spot) = answer spot
+spotPaper (located.Refused why) = onPaper why
+
+abbrev pub cornersPaper : Corners → Paper Edges
+cornersPaper (corners.Framed e) = answer e
+cornersPaper (corners.Refused why) = onPaper why
+
+abbrev pub offsetPaper : Apart → Paper Offset
+offsetPaper (apart.By o) = answer o
+offsetPaper (apart.Refused why) = onPaper why

@@ -1,0 +1,133 @@
+// The cover of a window.
+use crate::Edges;
+use crate::Place;
+use crate::grid::AREA;
+use crate::grid::distance;
+use crate::grid::millimetres;
+use crate::sheet::number_at;
+use crate::table::Scale;
+use crate::table::is_scale;
+use refusal::Laid;
+use refusal::Refusal;
+ghost use mathlib.Core.Path.{_≡_};
+ghost use lib.ListN.{length};
+ghost use lib.Seq.{sets};
+ghost use Rattle.refusal.specs.Paper.{counted, roomAfter};
+ghost use Rattle.refusal.specs.Numbers.{laidPaper};
+ghost use Rattle.division.specs.Words.{from};
+ghost use Rattle.division.specs.Table.{rows, columns};
+ghost use Rattle.division.specs.Grid.{area, within};
+ghost use Rattle.division.specs.Cover.{isWindow, columnsIn, rowsIn, block, cover};
+ghost use Rattle.division.specs.Given.{Stretch, spanOf, Seen, Run, Fills};
+
+// A run of rows or of columns.
+pub struct Span {
+    pub first: u32,
+    pub count: u32,
+}
+
+fn is_window(w: Edges) -> bool
+    ensures { λ r. ⌜ r ≡ isWindow w ⌝ }
+{
+    (w.west < w.east) & (w.south < w.north)
+}
+
+fn in_area(w: Edges) -> bool
+    ensures { λ r. ⌜ r ≡ within area w ⌝ }
+{
+    ((AREA.west <= w.west) & (w.east <= AREA.east))
+        & ((AREA.south <= w.south) & (w.north <= AREA.north))
+}
+
+// The cells of a size that the stretch from a up to b meets.
+fn span_of(a: u64, b: u64, size: u64) -> Span
+    requires { ⌜ Stretch a b size ⌝ }
+    ensures { λ r. ⌜ r ≡ spanOf a b size ⌝ }
+{
+    let first = a / size;
+    let last = (b - 1) / size;
+    let count = last - first + 1;
+    Span {
+        first: first as u32,
+        count: count as u32,
+    }
+}
+
+// The columns and the rows of a scale that share a point with a window in the area.
+fn columns_in(s: u32, w: Edges) -> Span
+    requires { ⌜ Seen s w ⌝ }
+    ensures { λ r. ⌜ Run (columnsIn s w) (columns s) r ⌝ }
+{
+    let size = millimetres(Scale(s).row().width);
+    span_of(
+        distance(w.west, AREA.west),
+        distance(w.east, AREA.west),
+        size,
+    )
+}
+
+fn rows_in(s: u32, w: Edges) -> Span
+    requires { ⌜ Seen s w ⌝ }
+    ensures { λ r. ⌜ Run (rowsIn s w) (rows s) r ⌝ }
+{
+    let size = millimetres(Scale(s).row().height);
+    span_of(
+        distance(AREA.north, w.north),
+        distance(AREA.north, w.south),
+        size,
+    )
+}
+
+// Writes the sheets of the rows and columns, rows from the north, each from the west.
+fn fill(s: u32, down: Span, across: Span, room: &mut [u32])
+    requires { ⌜ Fills s down across (length (now room)) ⌝ }
+    ensures { λ _. ⌜ now (room .exit) ≡ sets (now (room .entry)) 0 (block s (from (down .first) (down .count)) (from (across .first) (across .count))) ⌝ }
+{
+    let top = down.first;
+    let left = across.first;
+    let m = down.count;
+    let n = across.count;
+    let total = m * n;
+    let mut i: u32 = 0;
+    while i < total {
+        let row = top + i / n;
+        let column = left + i % n;
+        let x = number_at(
+            s,
+            Place {
+                row: row,
+                column: column,
+            },
+        );
+        let at = i as usize;
+        room[at] = x;
+        i += 1;
+    }
+}
+
+// The sheets of a scale that share a point with a window, laid into lent room.
+pub fn cover(scale: u32, window: Edges, room: &mut [u32]) -> Laid
+    ensures { λ r. ⌜ laidPaper r ≡ counted (cover scale window (length (now (room .entry)))) ⌝ }
+    ensures { λ r. ⌜ now (room .exit) ≡ roomAfter (cover scale window (length (now (room .entry)))) (now (room .entry)) ⌝ }
+{
+    if !is_scale(scale) {
+        return Laid::Refused(Refusal::NoScale);
+    }
+    if !is_window(window) {
+        return Laid::Refused(Refusal::WindowOrder);
+    }
+    if !in_area(window) {
+        return Laid::Refused(Refusal::WindowOutside);
+    }
+    let down = rows_in(scale, window);
+    let across = columns_in(scale, window);
+    let count = (down.count * across.count) as usize;
+    if 4_096 < count {
+        return Laid::Refused(Refusal::TooMany);
+    }
+    if room.len() < count {
+        return Laid::Refused(Refusal::Room(count));
+    }
+    fill(scale, down, across, room);
+    Laid::Items(count)
+}

@@ -1,0 +1,88 @@
+// The area and the edges in it, in millimetres.
+use crate::Edges;
+use crate::Place;
+use crate::table::Scale;
+ghost use mathlib.Core.Path.{_≡_};
+ghost use lib.IntN.{natAbs, _-ℤ_};
+ghost use Rattle.division.specs.Grid.{area, owns, millimetres, columnAt, rowAt, westOf, northOf, edgesOf};
+ghost use Rattle.division.specs.Given.{Rising, Across, Down, ColumnEdge, RowEdge, OnGrid};
+
+pub const AREA: Edges = Edges {
+    west: 200_000_000,
+    east: 800_000_000,
+    south: 4_570_000_000,
+    north: 5_170_000_000,
+};
+
+pub(crate) fn in_area(e: i64, n: i64) -> bool
+    ensures { λ r. ⌜ r ≡ owns area e n ⌝ }
+{
+    ((AREA.west <= e) & (e < AREA.east)) & ((AREA.south < n) & (n <= AREA.north))
+}
+
+pub(crate) fn millimetres(m: u32) -> u64
+    ensures { λ r. ⌜ r ≡ millimetres m ⌝ }
+{
+    m as u64 * 1_000
+}
+
+// How far b lies beyond a.
+pub(crate) fn distance(b: i64, a: i64) -> u64
+    requires { ⌜ Rising a b ⌝ }
+    ensures { λ r. ⌜ r ≡ natAbs (b -ℤ a) ⌝ }
+{
+    (b - a) as u64
+}
+
+// The column and the row of a scale in which a point of the area lies.
+pub(crate) fn column_at(s: u32, e: i64) -> u32
+    requires { ⌜ Across s e ⌝ }
+    ensures { λ r. ⌜ r ≡ columnAt s e ⌝ }
+{
+    let w = millimetres(Scale(s).row().width);
+    (distance(e, AREA.west) / w) as u32
+}
+
+pub(crate) fn row_at(s: u32, n: i64) -> u32
+    requires { ⌜ Down s n ⌝ }
+    ensures { λ r. ⌜ r ≡ rowAt s n ⌝ }
+{
+    let h = millimetres(Scale(s).row().height);
+    (distance(AREA.north, n) / h) as u32
+}
+
+// The west edge of a column and the north edge of a row; one past the last is the area's east and south edge.
+fn west_of(s: u32, column: u32) -> i64
+    requires { ⌜ ColumnEdge s column ⌝ }
+    ensures { λ r. ⌜ r ≡ westOf s column ⌝ }
+{
+    let w = millimetres(Scale(s).row().width);
+    let x = 200_000_000 + column as u64 * w;
+    x as i64
+}
+
+fn north_of(s: u32, row: u32) -> i64
+    requires { ⌜ RowEdge s row ⌝ }
+    ensures { λ r. ⌜ r ≡ northOf s row ⌝ }
+{
+    let h = millimetres(Scale(s).row().height);
+    let y = 5_170_000_000 - row as u64 * h;
+    y as i64
+}
+
+// The edges of a place of a scale.
+pub(crate) fn edges_of(s: u32, p: Place) -> Edges
+    requires { ⌜ OnGrid s p ⌝ }
+    ensures { λ r. ⌜ r ≡ edgesOf s p ⌝ }
+{
+    let west = west_of(s, p.column);
+    let east = west_of(s, p.column + 1);
+    let south = north_of(s, p.row + 1);
+    let north = north_of(s, p.row);
+    Edges {
+        west: west,
+        east: east,
+        south: south,
+        north: north,
+    }
+}

@@ -1,0 +1,201 @@
+// Sheet numbers and places, the sheet of a point, the corners of a sheet.
+use crate::Corners;
+use crate::Found;
+use crate::Located;
+use crate::Place;
+use crate::Spot;
+use crate::grid::column_at;
+use crate::grid::edges_of;
+use crate::grid::in_area;
+use crate::grid::row_at;
+use crate::table::Scale;
+use crate::table::is_scale;
+use refusal::Refusal;
+ghost use mathlib.Core.Path.{_≡_};
+ghost use mathlib.Core.Bool.{true};
+ghost use Prim.Native.Nat.{_<_};
+ghost use Rattle.division.specs.Table.{made};
+ghost use Rattle.division.specs.Sheet.{isSheet, areaIndex, areaPlace, partIndex, numberIn, parentPlace, childPlace, indexAt, placeAt, sheetOf, scaleOf, spotOf, onGrid, locate, sheetOn, sheetAt, cornersOf};
+ghost use Rattle.division.specs.Answers.{sheetPaper, spotPaper, cornersPaper};
+ghost use Rattle.division.specs.Given.{OnGrid, Indexed, Parted, Part, PartPlace, AreaPlace};
+
+pub(crate) fn is_sheet(n: u32) -> bool
+    ensures { λ r. ⌜ r ≡ isSheet n ⌝ }
+{
+    n <= Scale::LAST_SHEET
+}
+
+// A place of the area in columns, and its index.
+fn area_index(columns: u32, p: Place) -> u32
+    requires { ⌜ AreaPlace columns p ⌝ }
+    ensures { λ r. ⌜ r ≡ areaIndex columns p ⌝ }
+{
+    p.row * columns + p.column
+}
+
+fn area_place(columns: u32, i: u32) -> Place
+    requires { ⌜ 0 < columns ⌝ }
+    ensures { λ r. ⌜ r ≡ areaPlace columns i ⌝ }
+{
+    Place {
+        row: i / columns,
+        column: i % columns,
+    }
+}
+
+// A part of a parent in k x k: its number there, its parent's place, its place, its index.
+fn number_in(k: u32, p: Place) -> u32
+    requires { ⌜ Parted k ⌝ }
+    ensures { λ r. ⌜ r ≡ numberIn k p ⌝ }
+{
+    p.row % k * k + p.column % k + 1
+}
+
+fn parent_place(k: u32, p: Place) -> Place
+    requires { ⌜ Parted k ⌝ }
+    ensures { λ r. ⌜ r ≡ parentPlace k p ⌝ }
+{
+    Place {
+        row: p.row / k,
+        column: p.column / k,
+    }
+}
+
+fn child_place(k: u32, up: Place, number: u32) -> Place
+    requires { ⌜ PartPlace k up number ⌝ }
+    ensures { λ r. ⌜ r ≡ childPlace k up number ⌝ }
+{
+    let j = number - 1;
+    Place {
+        row: up.row * k + j / k,
+        column: up.column * k + j % k,
+    }
+}
+
+pub(crate) fn part_index(k: u32, up: u32, number: u32) -> u32
+    requires { ⌜ Part k up number ⌝ }
+    ensures { λ r. ⌜ r ≡ partIndex k up number ⌝ }
+{
+    up * (k * k) + (number - 1)
+}
+
+// The index of a place of a scale, by way of its parents, and back.
+fn index_of(s: u32, p: Place) -> u32
+    requires { ⌜ OnGrid s p ⌝ }
+    ensures { λ r. ⌜ r ≡ indexAt (made s) p ⌝ }
+{
+    let t = Scale(s).row();
+    let parent = t.parent;
+    if parent == 0 {
+        return area_index(t.columns, p);
+    }
+    let up = index_of(parent, parent_place(t.parts, p));
+    part_index(t.parts, up, number_in(t.parts, p))
+}
+
+fn place_in(s: u32, i: u32) -> Place
+    requires { ⌜ Indexed s i ⌝ }
+    ensures { λ r. ⌜ r ≡ placeAt (made s) i ⌝ }
+{
+    let t = Scale(s).row();
+    let parent = t.parent;
+    if parent == 0 {
+        return area_place(t.columns, i);
+    }
+    let each = t.parts * t.parts;
+    let up = place_in(parent, i / each);
+    child_place(t.parts, up, i % each + 1)
+}
+
+// The sheet at a place of a scale.
+pub(crate) fn number_at(s: u32, p: Place) -> u32
+    requires { ⌜ OnGrid s p ⌝ }
+    ensures { λ r. ⌜ r ≡ sheetOf s p ⌝ }
+{
+    Scale(s).row().first + index_of(s, p)
+}
+
+// The scale of a sheet: the last that begins at or before it.
+pub(crate) fn scale_of(n: u32) -> u32
+    requires { ⌜ isSheet n ≡ true ⌝ }
+    ensures { λ r. ⌜ r ≡ scaleOf n ⌝ }
+{
+    let mut s = Scale::LAST;
+    while n < Scale(s).row().first {
+        s -= 1;
+    }
+    s
+}
+
+// The scale and the place of a sheet.
+pub(crate) fn spot_of(n: u32) -> Spot
+    requires { ⌜ isSheet n ≡ true ⌝ }
+    ensures { λ r. ⌜ r ≡ spotOf n ⌝ }
+{
+    let s = scale_of(n);
+    let first = Scale(s).row().first;
+    let p = place_in(s, n - first);
+    Spot { scale: s, place: p }
+}
+
+// Sheet to scale, row and column.
+pub fn locate(sheet: u32) -> Located
+    ensures { λ r. ⌜ spotPaper r ≡ locate sheet ⌝ }
+{
+    if !is_sheet(sheet) {
+        return Located::Refused(Refusal::NoSheet);
+    }
+    Located::At(spot_of(sheet))
+}
+
+fn on_grid(s: u32, p: Place) -> bool
+    ensures { λ r. ⌜ r ≡ onGrid s p ⌝ }
+{
+    let t = Scale(s).row();
+    (p.row < t.rows) & (p.column < t.columns)
+}
+
+// Scale, row and column to sheet.
+pub fn sheet_on(scale: u32, place: Place) -> Found
+    ensures { λ r. ⌜ sheetPaper r ≡ sheetOn scale place ⌝ }
+{
+    if !is_scale(scale) {
+        return Found::Refused(Refusal::NoScale);
+    }
+    if !on_grid(scale, place) {
+        return Found::Refused(Refusal::NoSuch);
+    }
+    Found::Sheet(number_at(scale, place))
+}
+
+// The sheet of a scale in which a point lies.
+pub fn sheet_at(scale: u32, e: i64, n: i64) -> Found
+    ensures { λ r. ⌜ sheetPaper r ≡ sheetAt scale e n ⌝ }
+{
+    if !is_scale(scale) {
+        return Found::Refused(Refusal::NoScale);
+    }
+    if !in_area(e, n) {
+        return Found::Refused(Refusal::PointOutside);
+    }
+    let row = row_at(scale, n);
+    let column = column_at(scale, e);
+    Found::Sheet(number_at(
+        scale,
+        Place {
+            row: row,
+            column: column,
+        },
+    ))
+}
+
+// The corners of a sheet: its west, east, south and north edge.
+pub fn corners_of(sheet: u32) -> Corners
+    ensures { λ r. ⌜ cornersPaper r ≡ cornersOf sheet ⌝ }
+{
+    if !is_sheet(sheet) {
+        return Corners::Refused(Refusal::NoSheet);
+    }
+    let at = spot_of(sheet);
+    Corners::Framed(edges_of(at.scale, at.place))
+}

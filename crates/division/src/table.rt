@@ -1,0 +1,166 @@
+// The nine scales: one table, and what is asked of a scale.
+ghost use mathlib.Core.Path.{_≡_};
+ghost use Rattle.division.specs.Table.{isScale, codeRow, width, height, first, last};
+
+// What belongs to a scale. Width and height are metres; parts is the number of parts of a parent each way (2 for 2 x 2) and parent
+// the scale that it is made from, both 0 where it is made from the area.
+pub struct Row {
+    pub width: u32,
+    pub height: u32,
+    pub rows: u32,
+    pub columns: u32,
+    pub parts: u32,
+    pub parent: u32,
+    pub first: u32,
+}
+
+const TABLE: [Row; 9] = [
+    Row {
+        width: 150_000,
+        height: 100_000,
+        rows: 6,
+        columns: 4,
+        parts: 0,
+        parent: 0,
+        first: 0,
+    },
+    Row {
+        width: 60_000,
+        height: 40_000,
+        rows: 15,
+        columns: 10,
+        parts: 0,
+        parent: 0,
+        first: 24,
+    },
+    Row {
+        width: 30_000,
+        height: 20_000,
+        rows: 30,
+        columns: 20,
+        parts: 0,
+        parent: 0,
+        first: 174,
+    },
+    Row {
+        width: 15_000,
+        height: 10_000,
+        rows: 60,
+        columns: 40,
+        parts: 2,
+        parent: 3,
+        first: 774,
+    },
+    Row {
+        width: 6_000,
+        height: 4_000,
+        rows: 150,
+        columns: 100,
+        parts: 5,
+        parent: 3,
+        first: 3_174,
+    },
+    Row {
+        width: 3_000,
+        height: 2_000,
+        rows: 300,
+        columns: 200,
+        parts: 5,
+        parent: 4,
+        first: 18_174,
+    },
+    Row {
+        width: 1_200,
+        height: 800,
+        rows: 750,
+        columns: 500,
+        parts: 25,
+        parent: 3,
+        first: 78_174,
+    },
+    Row {
+        width: 600,
+        height: 400,
+        rows: 1_500,
+        columns: 1_000,
+        parts: 2,
+        parent: 7,
+        first: 453_174,
+    },
+    Row {
+        width: 300,
+        height: 200,
+        rows: 3_000,
+        columns: 2_000,
+        parts: 2,
+        parent: 8,
+        first: 1_953_174,
+    },
+];
+
+const NO_ROW: Row = Row {
+    width: 0,
+    height: 0,
+    rows: 0,
+    columns: 0,
+    parts: 0,
+    parent: 0,
+    first: 0,
+};
+
+// A number given as a scale: 1 to 9 are the scales, and of any other number each answer is 0.
+pub struct Scale(pub u32);
+
+impl Scale {
+    pub const LAST: u32 = 9;
+
+    pub const LAST_SHEET: u32 = 7_953_173;
+
+    pub fn row(self) -> Row
+        ensures { λ r. ⌜ r ≡ codeRow (self .0) ⌝ }
+    {
+        let s = self.0;
+        if !is_scale(s) {
+            return NO_ROW;
+        }
+        let i = (s - 1) as usize;
+        TABLE[i]
+    }
+
+    // Width and height of a sheet in metres.
+    pub fn width(self) -> u32
+        ensures { λ r. ⌜ r ≡ width (self .0) ⌝ }
+    {
+        self.row().width
+    }
+
+    pub fn height(self) -> u32
+        ensures { λ r. ⌜ r ≡ height (self .0) ⌝ }
+    {
+        self.row().height
+    }
+
+    // The first and the last sheet number of the scale.
+    pub fn first(self) -> u32
+        ensures { λ r. ⌜ r ≡ first (self .0) ⌝ }
+    {
+        self.row().first
+    }
+
+    pub fn last(self) -> u32
+        ensures { λ r. ⌜ r ≡ last (self .0) ⌝ }
+    {
+        let s = self.0;
+        if !is_scale(s) {
+            return 0;
+        }
+        let t = self.row();
+        t.first + t.rows * t.columns - 1
+    }
+}
+
+pub(crate) fn is_scale(s: u32) -> bool
+    ensures { λ r. ⌜ r ≡ isScale s ⌝ }
+{
+    (1 <= s) & (s <= Scale::LAST)
+}

@@ -1,0 +1,73 @@
+-- Answers and cascades on paper: a line that refuses decides, and no two answers are the same on paper. Assumes nothing.
+use mathlib.Core.Path.{_≡_, refl, sym, ap, _∙_}
+use mathlib.Core.Bool.{Bool, true, false, not}
+use mathlib.Core.List.{[], _∷_}
+use Prim.Native.Nat.{ℕ, _-_}
+use native.Mathlib.Omega.{arith}
+use borrow.Author.Tests.{not-true, not-false}
+use lib.ListN.{getD}
+use Rattle.refusal.specs.declared.Refusal.{Refusal}
+use Rattle.refusal.specs.declared.Refusal.the-variants.{PointOutside, NoScale, NoSheet, LabelForm, FieldRange, NoSuch, WindowOrder, WindowOutside, TooMany, Room, EndsEarly, BadNumber, PastLast, MoreBytes, NotRising, NameForm, NameScale}
+use Rattle.refusal.specs.declared.Laid.{Laid}
+use Rattle.refusal.specs.declared.Laid.the-variants.{Items, Refused}
+use Rattle.refusal.specs.Paper.{Paper, answer, refused, refuse_unless_, _>>_}
+use Rattle.refusal.specs.Numbers.{onPaper, laidPaper}
+
+-- ---- a line of a cascade, by the code's flag for its test: `if !flag { return .. }`
+
+pub fails : {flag test : Bool} → flag ≡ test → not flag ≡ true → test ≡ false
+fails {flag} e f = sym e ∙ not-true flag f
+
+pub holds : {flag test : Bool} → flag ≡ test → not flag ≡ false → test ≡ true
+holds {flag} e f = sym e ∙ not-false flag f
+
+-- what is answered has passed each line
+pub passed : {A : Type 0} (n : ℕ) (test : Bool) (next : Paper A) {a : A} → ((refuse n unless test) >> next) ≡ answer a → (test ≡ true) × (next ≡ answer a)
+passed n true next e = (refl, e)
+passed n false next e = let z : _≡_ {A = ℕ} 0 1 = cc in absurd (omega arith)
+
+-- ---- two answers that meet one contract coincide
+
+-- the refusal of a number and a value
+abbrev refusalAt : ℕ → ℕ → Refusal
+refusalAt n v = getD (PointOutside ∷ NoScale ∷ NoSheet ∷ LabelForm ∷ FieldRange ∷ NoSuch ∷ WindowOrder ∷ WindowOutside ∷ TooMany ∷ Room v ∷ EndsEarly ∷ BadNumber ∷ PastLast ∷ MoreBytes ∷ NotRising ∷ NameForm ∷ NameScale ∷ []) (n - 1) NameScale
+
+-- from the paper back to an answer of a kind
+abbrev pub read : {A X : Type 0} → (X → A) → (Refusal → A) → Paper X → A
+read good bad (answer x) = good x
+read good bad (refused n v) = bad (refusalAt n v)
+
+pub read-refusal : {A X : Type 0} (good : X → A) (bad : Refusal → A) (why : Refusal) → read good bad (onPaper why) ≡ bad why
+read-refusal good bad PointOutside = refl
+read-refusal good bad NoScale = refl
+read-refusal good bad NoSheet = refl
+read-refusal good bad LabelForm = refl
+read-refusal good bad FieldRange = refl
+read-refusal good bad NoSuch = refl
+read-refusal good bad WindowOrder = refl
+read-refusal good bad WindowOutside = refl
+read-refusal good bad TooMany = refl
+read-refusal good bad (Room needed) = refl
+read-refusal good bad EndsEarly = refl
+read-refusal good bad BadNumber = refl
+read-refusal good bad PastLast = refl
+read-refusal good bad MoreBytes = refl
+read-refusal good bad NotRising = refl
+read-refusal good bad NameForm = refl
+read-refusal good bad NameScale = refl
+
+-- a kind of answer that the paper gives back
+pub record Told {A X : Type 0} (paper : A → Paper X) : Type 0 where
+  pub back : Paper X → A
+  pub again : (a : A) → back (paper a) ≡ a
+
+-- so two answers that meet one contract, `paper r ≡ definition`, are the same
+pub coincide : {A X : Type 0} {paper : A → Paper X} → Told paper → {a b : A} {d : Paper X} → paper a ≡ d → paper b ≡ d → a ≡ b
+coincide t {a} {b} e f = sym (t .again a) ∙ ap (t .back) (e ∙ sym f) ∙ t .again b
+
+pub laid-told : Told laidPaper
+laid-told = record { back = read Items Refused; again = again }
+  where
+    again : (a : Laid) → read Items Refused (laidPaper a) ≡ a
+    again (Items n) = refl
+    again (Refused why) = read-refusal Items Refused why
