@@ -1,10 +1,9 @@
 -- A scale and its parent's: a place lies in its parent's place, an index in its parent's index. Assumes nothing.
-use mathlib.Core.Path.{_≡_, refl, sym, ap, _∙_, subst}
+use mathlib.Core.Path.{_≡_, refl, ap, _∙_, subst}
 use mathlib.Core.Bool.{true}
 use Prim.Native.Nat.{ℕ, zero, suc, _+_, _-_, _*_, _/_, _%_, _≤_, _<_}
 use native.Mathlib.Nat.{mod-lt, mul-pos, mul-le-mul, mul-le-mul-right, le-trans}
 use native.Mathlib.Omega.{arith}
-use lib.Arith.{digits-lt}
 use borrow.Author.Tests.{leb-true, eqb-true}
 use Rattle.division.specs.declared.Place.{Place}
 use Rattle.division.specs.Words.{_≤?_, _=?_, between}

@@ -12,3 +12,10 @@ pub mod WindowLaws
 pub mod BlockLaws
 pub mod CoverLaws
 pub mod PointTheorems
+pub mod GroundTheorems
+pub mod RelationTheorems
+pub mod MeetLaws
+pub mod MemberLaws
+pub mod CoverTheorems
+pub mod SheetTheorems
+pub mod AnswerLaws

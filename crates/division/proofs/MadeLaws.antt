@@ -1,12 +1,12 @@
 -- Place and index undo each other, once over how a scale is made: a place is its parent's place and its number there. Assumes nothing.
-use mathlib.Core.Path.{_≡_, refl, sym, ap, _∙_}
+use mathlib.Core.Path.{_≡_}
 use Prim.Native.Nat.{ℕ, _+_, _-_, _*_, _/_, _%_, _≤_, _<_}
 use native.Mathlib.Nat.{mod-lt, mul-pos, div-add-mod', div-lt-iff-lt-mul, mul-mul-mul-comm}
 use native.Mathlib.Omega.{arith}
 use lib.Arith.{digits-lt, digits-div, digits-mod}
 use Rattle.division.specs.declared.Place.{Place}
 use Rattle.division.specs.Table.{Made, ofArea, ofScale, rowsOf, columnsOf}
-use Rattle.division.specs.Sheet.{numberIn, parentPlace, childPlace, partIndex, indexAt, placeAt}
+use Rattle.division.specs.Sheet.{numberIn, parentPlace, childPlace, indexAt, placeAt}
 
 pub place : {a b c d : ℕ} → a ≡ c → b ≡ d → _≡_ {A = Place} (record { row = a; column = b }) (record { row = c; column = d })
 place e f = λ i. record { row = e i; column = f i }

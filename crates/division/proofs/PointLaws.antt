@@ -1,12 +1,9 @@
 -- A point of the area lies in one row and one column of each scale. Assumes nothing.
-use mathlib.Core.Path.{_≡_, refl, sym, ap, _∙_}
-use mathlib.Core.Bool.{Bool, true, false, _&&_}
-use Prim.Native.Nat.{ℕ, _+_, _-_, _*_, _/_, _≤_, _<_}
-use native.Mathlib.Omega.{arith}
-use lib.IntN.{ℤ, pos}
-use Rattle.division.specs.declared.Place.{Place}
+use mathlib.Core.Path.{_≡_}
+use mathlib.Core.Bool.{true, _&&_}
+use Prim.Native.Nat.{ℕ}
+use lib.IntN.{ℤ}
 use Rattle.division.specs.Words.{_≤ᶻ_, _<ᶻ_}
-use Rattle.division.specs.Table.{isScale}
 use Rattle.division.specs.Grid.{area, owns, columnAt, rowAt}
 use Rattle.division.specs.Given.{IsScale, OnGrid, Across, Down}
 use Rattle.division.proofs.TestLaws.{both}

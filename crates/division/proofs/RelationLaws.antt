@@ -1,11 +1,11 @@
 -- A place that stays on its line when it is moved is a plain number below the line's count. Assumes nothing.
-use mathlib.Core.Path.{_≡_, refl, sym, ap, ap₂, _∙_}
-use mathlib.Core.Bool.{Bool, true, false, _&&_}
+use mathlib.Core.Path.{_≡_}
+use mathlib.Core.Bool.{true, _&&_}
+use mathlib.Core.List.{[], _∷_}
 use Prim.Native.Nat.{ℕ, _<_}
 use borrow.Author.Tests.{ltb-true}
 use lib.IntN.{ℤ, pos, natAbs, _-ℤ_}
 use lib.Signed.{leZ, ltZ}
-use Rattle.division.specs.declared.Place.{Place}
 use Rattle.division.specs.declared.Spot.{Spot}
 use Rattle.division.specs.Words.{_≤ᶻ_, _<ᶻ_}
 use Rattle.division.specs.Table.{rows, columns}
@@ -34,3 +34,7 @@ walked-on at east south h e f =
     let x = stayed (at .place .column) east (columns (at .scale)) e in
     let y = stayed (at .place .row) south (rows (at .scale)) f in
     record { scale = h .on .scale; in-rows = rw (y .to .is) (y .in-count); in-columns = rw (x .to .is) (x .in-count) }
+
+-- a row of three, place by place
+pub three : {A : Type 0} {a b c x y z : A} → a ≡ x → b ≡ y → c ≡ z → a ∷ b ∷ c ∷ [] ≡ x ∷ y ∷ z ∷ []
+three e f g = λ i. e i ∷ f i ∷ g i ∷ []

@@ -1,5 +1,5 @@
 -- The rules of the table: each computes at each of the nine scales, and holds at any scale. Assumes nothing.
-use mathlib.Core.Path.{_≡_, refl, sym, ap, subst}
+use mathlib.Core.Path.{_≡_, refl, sym, ap, _∙_, subst}
 use mathlib.Core.Logic.{⊎-elim}
 use mathlib.Core.Bool.{Bool, true, false}
 use mathlib.Core.List.{map}
@@ -8,7 +8,7 @@ use native.Mathlib.Nat.{eq-or-lt-of-le, le-of-suc-le-suc, mul-le-mul}
 use native.Mathlib.Omega.{arith}
 use borrow.Author.Tests.{leb-true, leb-false, le-leb}
 use lib.ListN.{getD, List·getD-eq-default}
-use Rattle.division.specs.Words.{_≤?_, from}
+use Rattle.division.specs.Words.{_≤?_, _=?_, from, keep}
 use Rattle.division.specs.Table.{isScale, Made, TableRow, partsOf, ofArea, ofScale, table, tableRow, rowsOf, columnsOf, width, height, made, rows, columns, parentScale, parts, perParent, sheets, first, codeRow, scales}
 use Rattle.division.specs.Given.{IsScale}
 use Rattle.division.proofs.TestLaws.{both}
@@ -54,11 +54,13 @@ pub record Rules (s : ℕ) : Type 0 where
   pub above : parentScale s < s
   pub grows : made s ≡ grown s (parentScale s)
   pub sound : Sound (made s)
+  -- the width tells the scale
+  pub told : getD (keep (λ t. width t =? width s) scales) 0 0 ≡ s
   -- its row stands where the code's table has it
   pub listed : getD (map codeRow scales) (s - 1) (codeRow 0) ≡ codeRow s
 
 nine : Each Rules 9
-unfolding table tableRow rowsOf columnsOf from
+unfolding table tableRow rowsOf columnsOf from keep
 nine = search (refl, tt, arith)
 
 -- the test of a scale, both ways
@@ -92,3 +94,6 @@ rules {s} h = each Rules 9 nine s (h .one) (h .nine)
 pub all-sheets : before 10 ≡ 7_953_174
 unfolding table tableRow rowsOf columnsOf
 all-sheets = refl
+
+pub width-tells : {s t : ℕ} → IsScale s → IsScale t → width s ≡ width t → s ≡ t
+width-tells h l e = sym (rules h .told) ∙ ap (λ (w : ℕ). getD (keep (λ u. width u =? w) scales) 0 0) e ∙ rules l .told

@@ -80,7 +80,7 @@ pub less-fits : (a b : ℕ) → a < 2 ^ 63 → b < 2 ^ 63 → SFits w64 (pos a -
 less-fits a b h l =
     ⊎-elim (λ k. rw (pos-minus a b k) (record { sfits = omega arith })) (λ k. rw (pos-less a b k) (record { sfits = omega arith })) (le-or-less b a)
 
-same-leb : (a b c d : ℕ) → (a ≤ b → c ≤ d) → (c ≤ d → a ≤ b) → leb a b ≡ leb c d
+pub same-leb : (a b c d : ℕ) → (a ≤ b → c ≤ d) → (c ≤ d → a ≤ b) → leb a b ≡ leb c d
 same-leb a b c d f g =
     ⊎-elim (λ h. le-leb a b h ∙ sym (le-leb c d (f h)))
     (λ h. ⊎-elim (λ k. absurd (omega (arith, g k))) (λ k. lt-leb a b h ∙ sym (lt-leb c d k)) (le-or-less c d)) (le-or-less a b)

@@ -1,11 +1,10 @@
 -- A window in the area: its edges are plain numbers, and the columns and rows that it meets are spans of the grid. Assumes nothing.
-use mathlib.Core.Path.{_≡_, refl, sym, _∙_}
-use mathlib.Core.Logic.{⊎-elim}
-use mathlib.Core.Bool.{_&&_, and-comm}
-use Prim.Native.Nat.{ℕ, _+_, _-_, _*_, _≤_, _<_}
+use mathlib.Core.Path.{_≡_, refl, _∙_}
+use mathlib.Core.Bool.{Bool, _&&_, and-comm}
+use Prim.Native.Nat.{ℕ, suc, _+_, _-_, _*_, _≤_, _<_}
 use native.Mathlib.Nat.{add-mul, one-mul}
 use native.Mathlib.Omega.{arith}
-use borrow.Author.Tests.{lt-ltb, le-ltb, le-leb, leb-true}
+use borrow.Author.Tests.{le-leb, leb-true}
 use lib.Dec.{ltb}
 use lib.IntN.{pos, natAbs, _-ℤ_}
 use Rattle.division.specs.declared.Edges.{Edges}
@@ -14,7 +13,7 @@ use Rattle.division.specs.Table.{width, height, rows, columns}
 use Rattle.division.specs.Grid.{millimetres, area, westOf, northOf}
 use Rattle.division.specs.Cover.{columnsIn, rowsIn}
 use Rattle.division.specs.Given.{Rising, Seen, Stretch, spanOf, Run}
-use Rattle.division.proofs.TestLaws.{both, le-or-less, from-pos, after-pos, pos-minus}
+use Rattle.division.proofs.TestLaws.{both, from-pos, after-pos, pos-minus, same-leb}
 use Rattle.division.proofs.GridLaws.{some-width, some-height, all-columns, all-rows, high-in, north-is}
 use Rattle.division.proofs.SpanLaws.{meets, span-run}
 
@@ -56,12 +55,16 @@ bounds {s} {w} h =
       north-in = leb-true (d .0 .n) 5_170_000_000 (rw (d .0 .is) at (y .1));
     }
 
+-- the tests of a column and of a row
+abbrev pub columnMeets : ℕ → Edges → ℕ → Bool
+columnMeets s w c = westOf s c <ᶻ w .east && w .west <ᶻ westOf s (c + 1)
+
+abbrev pub rowMeets : ℕ → Edges → ℕ → Bool
+rowMeets s w r = northOf s (r + 1) <ᶻ w .north && w .south <ᶻ northOf s r
+
 -- two tests whose facts follow from each other are the same
 same : (a b c d : ℕ) → (a < b → c < d) → (c < d → a < b) → ltb a b ≡ ltb c d
-same a b c d f g =
-    ⊎-elim (λ l. rw (le-ltb a b l) (⊎-elim (λ k. sym (le-ltb c d k)) (λ k. absurd (omega (arith, g k))) (le-or-less d c)))
-    (λ l. lt-ltb a b l ∙ sym (lt-ltb c d (f l)))
-    (le-or-less b a)
+same a b c d f g = same-leb (suc a) b (suc c) d f g
 
 module _ {s : ℕ} {w : Edges} (h : Seen s w) where
   -- ---- its edges lie beyond the area's west edge, and before the area's north edge
@@ -94,9 +97,9 @@ module _ {s : ℕ} {w : Edges} (h : Seen s w) where
 
   pub columns-run : Run (columnsIn s w) (columns s) (spanOf (natAbs (w .west -ℤ area .west)) (natAbs (w .east -ℤ area .west)) (millimetres (width s)))
   unfolding columnsIn
-  columns-run = span-run across (columns s) (all-columns (h .scale)) (λ c. westOf s c <ᶻ w .east && w .west <ᶻ westOf s (c + 1)) tests
+  columns-run = span-run across (columns s) (all-columns (h .scale)) (columnMeets s w) tests
     where
-      tests : (c : ℕ) → c < columns s → (westOf s c <ᶻ w .east && w .west <ᶻ westOf s (c + 1)) ≡ meets (natAbs (w .west -ℤ area .west)) (natAbs (w .east -ℤ area .west)) (millimetres (width s)) c
+      tests : (c : ℕ) → c < columns s → columnMeets s w c ≡ meets (natAbs (w .west -ℤ area .west)) (natAbs (w .east -ℤ area .west)) (millimetres (width s)) c
       tests c l =
           let b = bounds h in
           let g = millimetres (width s) in
@@ -106,9 +109,9 @@ module _ {s : ℕ} {w : Edges} (h : Seen s w) where
 
   pub rows-run : Run (rowsIn s w) (rows s) (spanOf (natAbs (area .north -ℤ w .north)) (natAbs (area .north -ℤ w .south)) (millimetres (height s)))
   unfolding rowsIn
-  rows-run = span-run down (rows s) (all-rows (h .scale)) (λ r. northOf s (r + 1) <ᶻ w .north && w .south <ᶻ northOf s r) tests
+  rows-run = span-run down (rows s) (all-rows (h .scale)) (rowMeets s w) tests
     where
-      tests : (r : ℕ) → r < rows s → (northOf s (r + 1) <ᶻ w .north && w .south <ᶻ northOf s r) ≡ meets (natAbs (area .north -ℤ w .north)) (natAbs (area .north -ℤ w .south)) (millimetres (height s)) r
+      tests : (r : ℕ) → r < rows s → rowMeets s w r ≡ meets (natAbs (area .north -ℤ w .north)) (natAbs (area .north -ℤ w .south)) (millimetres (height s)) r
       tests r l =
           let b = bounds h in
           let g = millimetres (height s) in

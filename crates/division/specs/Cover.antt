@@ -5,7 +5,6 @@ use mathlib.Core.List.{List, map, flatMap}
 use lib.ListN.{length}
 use Rattle.refusal.specs.Paper.{Paper, refuse_unless_, _>>_, laid}
 use Rattle.division.specs.declared.Edges.{Edges}
-use Rattle.division.specs.declared.Place.{Place}
 use Rattle.division.specs.Words.{_≤?_, _<ᶻ_, from, keep}
 use Rattle.division.specs.Table.{isScale, rows, columns}
 use Rattle.division.specs.Grid.{area, within, westOf, northOf}

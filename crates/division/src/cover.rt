@@ -17,8 +17,9 @@ ghost use Rattle.refusal.specs.Numbers.{laidPaper};
 ghost use Rattle.division.specs.Words.{from};
 ghost use Rattle.division.specs.Table.{rows, columns};
 ghost use Rattle.division.specs.Grid.{area, within};
+ghost use Rattle.division.specs.Sheet.{sheetOf};
 ghost use Rattle.division.specs.Cover.{isWindow, columnsIn, rowsIn, block, cover};
-ghost use Rattle.division.specs.Given.{Stretch, spanOf, Seen, Run, Fills};
+ghost use Rattle.division.specs.Given.{OnGrid, Stretch, spanOf, Seen, Run, Fills};
 
 // A run of rows or of columns.
 pub struct Span {
@@ -78,6 +79,20 @@ fn rows_in(s: u32, w: Edges) -> Span
     )
 }
 
+// The sheet of a scale in a row and a column.
+fn sheet_in(s: u32, row: u32, column: u32) -> u32
+    requires { ⌜ OnGrid s (record { row = row; column = column }) ⌝ }
+    ensures { λ r. ⌜ r ≡ sheetOf s (record { row = row; column = column }) ⌝ }
+{
+    number_at(
+        s,
+        Place {
+            row: row,
+            column: column,
+        },
+    )
+}
+
 // Writes the sheets of the rows and columns, rows from the north, each from the west.
 fn fill(s: u32, down: Span, across: Span, room: &mut [u32])
     requires { ⌜ Fills s down across (length (now room)) ⌝ }
@@ -90,15 +105,9 @@ fn fill(s: u32, down: Span, across: Span, room: &mut [u32])
     let total = m * n;
     let mut i: u32 = 0;
     while i < total {
-        let row = top + i / n;
-        let column = left + i % n;
-        let x = number_at(
-            s,
-            Place {
-                row: row,
-                column: column,
-            },
-        );
+        let r = i / n;
+        let c = i % n;
+        let x = sheet_in(s, top + r, left + c);
         let at = i as usize;
         room[at] = x;
         i += 1;

@@ -25,24 +25,24 @@ mul-total c = omega (arith, c .before .pre .few)
 loop-holds : tie.Need-loop-holds Inv-loop μ-loop
 loop-holds c = search needs
 
-div-row : tie.Need-div-row Inv-loop μ-loop
-div-row c = some (c .before .before .before .pre) (c .before .loop .i) (c .loop-test .taken)
+div-r : tie.Need-div-r Inv-loop μ-loop
+div-r c = some (c .before .before .before .pre) (c .before .loop .i) (c .loop-test .taken)
 
-add-row : tie.Need-add-row Inv-loop μ-loop
-add-row c =
+rem-c : tie.Need-rem-c Inv-loop μ-loop
+rem-c c = some (c .before .before .before .pre) (c .before .loop .i) (c .loop-test .taken)
+
+add-sheet-in : tie.Need-add-sheet-in Inv-loop μ-loop
+add-sheet-in c =
     let f = c .before .before .before .pre in
     omega (arith, placed f (c .before .loop .i) (c .loop-test .taken) .in-rows, rules (f .scale) .few-rows)
 
-rem-column : tie.Need-rem-column Inv-loop μ-loop
-rem-column c = some (c .before .before .before .pre) (c .before .loop .i) (c .loop-test .taken)
-
-add-column : tie.Need-add-column Inv-loop μ-loop
-add-column c =
+add-sheet-in-2 : tie.Need-add-sheet-in-2 Inv-loop μ-loop
+add-sheet-in-2 c =
     let f = c .before .before .before .pre in
     omega (arith, placed f (c .before .loop .i) (c .loop-test .taken) .in-columns, rules (f .scale) .few-columns)
 
-number-at-requires : tie.Need-number-at-requires Inv-loop μ-loop
-number-at-requires c κs = placed (c .before .before .before .pre) (c .before .loop .i) (c .loop-test .taken)
+sheet-in-requires : tie.Need-sheet-in-requires Inv-loop μ-loop
+sheet-in-requires c κs = placed (c .before .before .before .pre) (c .before .loop .i) (c .loop-test .taken)
 
 cast-at : tie.Need-cast-at Inv-loop μ-loop
 cast-at c = search needs
@@ -63,8 +63,8 @@ loop-again : tie.Need-loop-again Inv-loop μ-loop
 loop-again c =
     let l = c .before .before .loop in (
       omega arith,
-      length-set (l .room) (l .i) (c .number-at .result) ∙ l .inv .1,
-      l .inv .2 ∙ turn (c .before .before .before .before .pre) (l .i) (c .before .loop-test .taken) (l .room) (c .number-at .result) (c .number-at .ensures),
+      length-set (l .room) (l .i) (c .sheet-in .result) ∙ l .inv .1,
+      l .inv .2 ∙ turn (c .before .before .before .before .pre) (l .i) (c .before .loop-test .taken) (l .room) (c .sheet-in .result) (c .sheet-in .ensures),
     )
 
 same-length : tie.Need-same-length Inv-loop μ-loop
@@ -83,11 +83,11 @@ fill-spec =
     μ-loop
     mul-total
     loop-holds
-    div-row
-    add-row
-    rem-column
-    add-column
-    number-at-requires
+    div-r
+    rem-c
+    add-sheet-in
+    add-sheet-in-2
+    sheet-in-requires
     cast-at
     mul-room
     slice-write-room

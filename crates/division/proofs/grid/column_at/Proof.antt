@@ -1,9 +1,9 @@
 -- The distance from the west edge, cut into widths, is a column of the grid. Assumes nothing.
-use mathlib.Core.Path.{_≡_, _∙_}
+use mathlib.Core.Path.{_≡_}
 use native.Mathlib.Omega.{arith}
 use borrow.Author.Needs.{needs}
 use Rattle.division.specs.Table.{width}
-use Rattle.division.specs.Grid.{millimetres, columnAt}
+use Rattle.division.specs.Grid.{millimetres}
 use Rattle.division.proofs.TestLaws.{back}
 use Rattle.division.proofs.TableLaws.{rules}
 use Rattle.division.proofs.GridLaws.{some-width, east, column-in}

@@ -1,9 +1,9 @@
 -- The distance from the north edge, cut into heights, is a row of the grid. Assumes nothing.
-use mathlib.Core.Path.{_≡_, _∙_}
+use mathlib.Core.Path.{_≡_}
 use native.Mathlib.Omega.{arith}
 use borrow.Author.Needs.{needs}
 use Rattle.division.specs.Table.{height}
-use Rattle.division.specs.Grid.{millimetres, rowAt}
+use Rattle.division.specs.Grid.{millimetres}
 use Rattle.division.proofs.TestLaws.{back, below-pos}
 use Rattle.division.proofs.TableLaws.{rules}
 use Rattle.division.proofs.GridLaws.{some-height, north, row-in}

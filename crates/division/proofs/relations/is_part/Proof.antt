@@ -1,5 +1,4 @@
 -- The row has the parent and the parts. Assumes nothing.
-use mathlib.Core.Path.{_≡_}
 use native.Mathlib.Omega.{arith}
 use borrow.Author.Needs.{needs}
 use Rattle.division.proofs.TableLaws.{few-parts}

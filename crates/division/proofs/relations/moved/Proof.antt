@@ -1,5 +1,5 @@
 -- A place that stays on its line is moved to a number below the count. Assumes nothing.
-use mathlib.Core.Path.{_≡_, _∙_}
+use mathlib.Core.Path.{_≡_}
 use native.Mathlib.Omega.{arith}
 use borrow.Author.Needs.{needs}
 use lib.IntN.{pos, _+ℤ_}

@@ -1,6 +1,10 @@
 -- Each place is a step. Assumes nothing.
+use mathlib.Core.Path.{ap, _∙_}
 use borrow.Author.Needs.{needs}
+use lib.IntN.{pos, negsuc}
+use Rattle.division.specs.Relations.{step, orNone}
 use Rattle.division.proofs.TestLaws.{back}
+use Rattle.division.proofs.RelationLaws.{three}
 use Rattle.division.proofs.relations.neighbour_row.Statement.{statement}
 use Rattle.division.proofs.relations.neighbour_row.Tie as tie
 
@@ -26,7 +30,10 @@ returns : tie.Need-returns
 returns c =
     let m = c .before .before in
     let w = m .before .before in
-    rw (c .or-none3 .ensures, c .before .step3 .ensures, m .or-none2 .ensures, m .before .step2 .ensures, w .or-none .ensures, w .before .step .ensures, back (w .before .before .fits .south))
+    let south = back (w .before .before .fits .south) in
+    three (w .or-none .ensures ∙ ap orNone (w .before .step .ensures ∙ ap (step (w .before .before .args .sheet) (negsuc 0)) south))
+    (m .or-none2 .ensures ∙ ap orNone (m .before .step2 .ensures ∙ ap (step (w .before .before .args .sheet) (pos 0)) south))
+    (c .or-none3 .ensures ∙ ap orNone (c .before .step3 .ensures ∙ ap (step (w .before .before .args .sheet) (pos 1)) south))
 
 pub neighbour-row-spec : {M : Type 1} → statement M
 neighbour-row-spec =

@@ -1,6 +1,7 @@
 -- The block is its three rows. Assumes nothing.
 use borrow.Author.Needs.{needs}
 use Rattle.division.specs.Relations.{neighbours}
+use Rattle.division.proofs.RelationLaws.{three}
 use Rattle.division.proofs.relations.neighbours.Statement.{statement}
 use Rattle.division.proofs.relations.neighbours.Tie as tie
 
@@ -15,7 +16,7 @@ neighbour-row-requires-3 c κs = search needs
 
 returns : tie.Need-returns
 unfolding neighbours
-returns c = rw (c .neighbour-row3 .ensures, c .before .neighbour-row2 .ensures, c .before .before .neighbour-row .ensures)
+returns c = three (c .before .before .neighbour-row .ensures) (c .before .neighbour-row2 .ensures) (c .neighbour-row3 .ensures)
 
 pub neighbours-spec : {M : Type 1} → statement M
 neighbours-spec =

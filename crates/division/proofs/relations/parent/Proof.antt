@@ -9,7 +9,6 @@ use Rattle.refusal.proofs.PaperLaws.{fails, holds}
 use Rattle.division.specs.Table.{parentScale, codeRow}
 use Rattle.division.specs.Sheet.{isSheet, scaleOf}
 use Rattle.division.specs.Relations.{parent}
-use Rattle.division.specs.Given.{Parted}
 use Rattle.division.proofs.TableLaws.{few-parts}
 use Rattle.division.proofs.NumberLaws.{ranged}
 use Rattle.division.proofs.FamilyLaws.{parted, parent-low}

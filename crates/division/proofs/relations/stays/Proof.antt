@@ -1,5 +1,4 @@
 -- Before the place there are as many as its number, after it as many as are left of the count. Assumes nothing.
-use mathlib.Core.Path.{_≡_}
 use borrow.Author.Needs.{needs}
 use Rattle.division.proofs.TestLaws.{back, returned}
 use Rattle.division.proofs.RelationLaws.{stays-is}

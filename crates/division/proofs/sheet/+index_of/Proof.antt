@@ -1,8 +1,6 @@
 -- Either the scale is made from the area, or the place is a part of its parent's place. The measure is the scale. Assumes nothing.
-use mathlib.Core.Path.{_≡_, sym}
+use mathlib.Core.Path.{sym}
 use native.Mathlib.Omega.{arith}
-use Rattle.division.specs.Table.{parentScale, codeRow}
-use Rattle.division.specs.Given.{OnGrid}
 use Rattle.division.proofs.TableLaws.{rules}
 use Rattle.division.proofs.FamilyLaws.{top-few, top-index, parted, parent-on, deep-part, deep-index}
 use Prim.Native.Nat.{ℕ, _<_}

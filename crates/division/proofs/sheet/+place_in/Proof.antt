@@ -1,5 +1,5 @@
 -- Either the scale is made from the area, or the index is that of a part of its parent. The measure is the scale. Assumes nothing.
-use mathlib.Core.Path.{_≡_, sym}
+use mathlib.Core.Path.{sym}
 use native.Mathlib.Nat.{mul-pos}
 use native.Mathlib.Omega.{arith}
 use Rattle.division.specs.Given.{Parted}

@@ -1,13 +1,12 @@
 -- Past both tests the point is in the area, and its row and column are on the grid. Assumes nothing.
-use mathlib.Core.Path.{_≡_, _∙_}
+use mathlib.Core.Path.{_≡_}
 use mathlib.Core.Bool.{true}
 use borrow.Author.Needs.{needs}
 use Rattle.refusal.proofs.PaperLaws.{fails, holds}
 use Rattle.division.specs.Table.{isScale}
 use Rattle.division.specs.Grid.{area, owns}
 use Rattle.division.specs.Sheet.{sheetAt}
-use Rattle.division.specs.Given.{IsScale, Across, Down}
-use Rattle.division.proofs.TestLaws.{back, both}
+use Rattle.division.proofs.TestLaws.{back}
 use Rattle.division.proofs.TableLaws.{scale}
 use Rattle.division.proofs.PointLaws.{Inside, inside, across, down, point-on}
 use Rattle.division.proofs.sheet.sheet_at.Statement.{statement}

@@ -1,9 +1,7 @@
 -- Past both tests the place is on the grid of a scale. Assumes nothing.
-use mathlib.Core.Path.{_≡_, sym}
 use borrow.Author.Needs.{needs}
 use Rattle.refusal.proofs.PaperLaws.{fails, holds}
 use Rattle.division.specs.Sheet.{sheetOn}
-use Rattle.division.specs.Given.{OnGrid}
 use Rattle.division.proofs.TableLaws.{scale}
 use Rattle.division.proofs.NumberLaws.{placed}
 use Rattle.division.proofs.sheet.sheet_on.Statement.{statement}

@@ -1,5 +1,4 @@
 -- A scale ends where its sheets are counted out, before the sum leaves a u32. Assumes nothing.
-use mathlib.Core.Path.{_≡_}
 use native.Mathlib.Omega.{arith}
 use borrow.Author.Needs.{needs}
 use Rattle.refusal.proofs.PaperLaws.{fails, holds}

@@ -1,10 +1,9 @@
 -- A scale's row stands in the table one place before its number. Assumes nothing.
-use mathlib.Core.Path.{sym, ap}
 use native.Mathlib.Omega.{arith}
 use borrow.Author.Needs.{needs}
 use Rattle.refusal.proofs.PaperLaws.{fails, holds}
 use Rattle.division.specs.Words.{from}
-use Rattle.division.specs.Table.{TableRow, table, tableRow, rowsOf, columnsOf}
+use Rattle.division.specs.Table.{table, tableRow, rowsOf, columnsOf}
 use Rattle.division.specs.Given.{IsScale}
 use Rattle.division.proofs.TableLaws.{scale, no-row, rules}
 use Rattle.division.proofs.table.Scale.row.Statement.{statement}
