@@ -15,11 +15,11 @@ use Rattle.division.proofs.TestLaws.{both}
 use Rattle.division.proofs.MadeLaws.{Sound}
 
 -- what holds at each of 1 to n holds at any of them
-abbrev Each : (ℕ → Type 0) → ℕ → Type 0
+abbrev pub Each : (ℕ → Type 0) → ℕ → Type 0
 Each P zero = Unit {0}
 Each P (suc n) = P (suc n) × Each P n
 
-each : (P : ℕ → Type 0) (n : ℕ) → Each P n → (s : ℕ) → 1 ≤ s → s ≤ n → P s
+pub each : (P : ℕ → Type 0) (n : ℕ) → Each P n → (s : ℕ) → 1 ≤ s → s ≤ n → P s
 each P zero t s h l = absurd (omega arith)
 each P (suc n) t s h l =
     ⊎-elim (λ e. subst P (sym e) (t .0)) (λ k. each P n (t .1) s h (le-of-suc-le-suc k)) (eq-or-lt-of-le l)

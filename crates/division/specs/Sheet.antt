@@ -1,6 +1,6 @@
 -- Sheet numbers and places, the sheet of a point, the corners of a sheet. Document 01, "The grid".
 use Prim.Native.Nat.{ℕ, _+_, _-_, _*_, _/_, _%_}
-use mathlib.Core.Bool.{Bool, _&&_}
+use mathlib.Core.Bool.{Bool, cond, _&&_}
 use lib.IntN.{ℤ}
 use lib.ListN.{length}
 use Rattle.refusal.specs.Paper.{Paper, answer, refuse_unless_, _>>_}
@@ -52,6 +52,10 @@ sheetOf s p = first s + indexAt (made s) p
 -- and back: as many scales have a first number that is not above a sheet as the number of its scale says
 unfoldable pub scaleOf : ℕ → ℕ
 scaleOf n = length (keep (λ s. first s ≤? n) scales)
+
+-- of no sheet no scale, 0
+abbrev pub scaleIn : ℕ → ℕ
+scaleIn n = cond (isSheet n) (scaleOf n) 0
 
 abbrev pub indexOf : ℕ → ℕ
 indexOf n = n - first (scaleOf n)

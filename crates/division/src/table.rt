@@ -1,6 +1,9 @@
 // The nine scales: one table, and what is asked of a scale.
+use crate::sheet::is_sheet;
+use crate::sheet::scale_of;
 ghost use mathlib.Core.Path.{_≡_};
 ghost use Rattle.division.specs.Table.{isScale, codeRow, width, height, first, last};
+ghost use Rattle.division.specs.Sheet.{scaleIn};
 
 // What belongs to a scale. Width and height are metres; parts is the number of parts of a parent each way (2 for 2 x 2) and parent
 // the scale that it is made from, both 0 where it is made from the area.
@@ -115,6 +118,17 @@ impl Scale {
     pub const LAST: u32 = 9;
 
     pub const LAST_SHEET: u32 = 7_953_173;
+
+    // The scale of a sheet; of a number that is no sheet, no scale.
+    pub fn of(sheet: u32) -> Scale
+        ensures { λ r. ⌜ r .0 ≡ scaleIn sheet ⌝ }
+    {
+        if !is_sheet(sheet) {
+            return Scale(0);
+        }
+        let s = scale_of(sheet);
+        Scale(s)
+    }
 
     pub fn row(self) -> Row
         ensures { λ r. ⌜ r ≡ codeRow (self .0) ⌝ }
