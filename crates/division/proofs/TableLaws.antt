@@ -70,6 +70,14 @@ scale s e = let b = both (1 ≤? s) (s ≤? 9) e in record { one = leb-true 1 s 
 pub is-scale : {s : ℕ} → IsScale s → isScale s ≡ true
 is-scale {s} h = rw (le-leb 1 s (h .one), le-leb s 9 (h .nine))
 
+-- a number that is none of the nine is no scale
+pub none-of-nine : (s : ℕ) → Each (λ k. s ≡ k → ⊥) 9 → isScale s ≡ false
+none-of-nine s h = by (isScale s) refl
+  where
+    by : (b : Bool) → isScale s ≡ b → b ≡ false
+    by true e = absurd (each (λ k. s ≡ k → ⊥) 9 h s (scale s e .one) (scale s e .nine) refl)
+    by false e = refl
+
 -- of no scale the row is zeros
 pub no-row : (s : ℕ) → isScale s ≡ false → tableRow s ≡ tableRow 0
 unfolding tableRow table
