@@ -36,21 +36,32 @@ lies k e n h g =
     let b : l .n0 ≡ n = cc (l .north-is0) in
     rw (a, b) at (l .lies)
 
+-- the upper edge of a sheet lies in it, from its west end to before its east end
+module _ (j : ℕ) (h : isSheet j ≡ true) where
+  abbrev left : ℕ
+  left = westℕ (scaleOf j) (placeOf j)
+
+  abbrev top : ℕ
+  top = northℕ (scaleOf j) (placeOf j)
+
+  top-owned : (e : ℕ) → left ≤ e → e < left + millimetres (width (scaleOf j)) → owns (groundOf j) (pos e) (pos top) ≡ true
+  top-owned e a b =
+      let o = on-grid j h in
+      lies-owns (placeOf j) o e top (record { west = a; east = b; south = omega (arith, some-height (o .scale)); north = omega arith })
+
+  corner-owned : owns (groundOf j) (pos left) (pos top) ≡ true
+  corner-owned = top-owned left (omega arith) (omega (arith, some-width (on-grid j h .scale)))
+
+-- so where two sheets have the same ground, each lies between the other's west and east edge
 module _ (j k : ℕ) (h : isSheet j ≡ true) (l : isSheet k ≡ true) (same : SameGround j k) where
-  -- the corner of j lies in j, and so in k; and so does the last point of its upper edge
-  corner-in : (e : ℕ) → westℕ (scaleOf j) (placeOf j) ≤ e → e < westℕ (scaleOf j) (placeOf j) + millimetres (width (scaleOf j)) → Lies (scaleOf k) (placeOf k) e (northℕ (scaleOf j) (placeOf j))
-  corner-in e a b =
-      let n = northℕ (scaleOf j) (placeOf j) in
-      let c : Lies (scaleOf j) (placeOf j) e n = record { west = a; east = b; south = omega (arith, some-height (on-grid j h .scale)); north = omega arith } in
-      lies k e n l (sym (same (pos e) (pos n)) ∙ lies-owns (placeOf j) (on-grid j h) e n c)
+  from-west : left k l ≤ left j h
+  from-west = lies k (left j h) (top j h) l (sym (same (pos (left j h)) (pos (top j h))) ∙ corner-owned j h) .west
 
-  from-west : westℕ (scaleOf k) (placeOf k) ≤ westℕ (scaleOf j) (placeOf j)
-  from-west = corner-in (westℕ (scaleOf j) (placeOf j)) (omega arith) (omega (arith, some-width (on-grid j h .scale))) .west
-
-  to-east : westℕ (scaleOf j) (placeOf j) + millimetres (width (scaleOf j)) ≤ westℕ (scaleOf k) (placeOf k) + millimetres (width (scaleOf k))
+  to-east : left j h + millimetres (width (scaleOf j)) ≤ left k l + millimetres (width (scaleOf k))
   to-east =
-      let e = westℕ (scaleOf j) (placeOf j) + millimetres (width (scaleOf j)) - 1 in
-      omega (arith, corner-in e (omega (arith, some-width (on-grid j h .scale))) (omega (arith, some-width (on-grid j h .scale))) .east)
+      let e = left j h + millimetres (width (scaleOf j)) - 1 in
+      let w = some-width (on-grid j h .scale) in
+      omega (arith, lies k e (top j h) l (sym (same (pos e) (pos (top j h))) ∙ top-owned j h e (omega (arith, w)) (omega (arith, w))) .east)
 
 -- "whichever scales they are of": the same ground, the same sheet
 pub ground-tells : (j k : ℕ) → isSheet j ≡ true → isSheet k ≡ true → SameGround j k → j ≡ k
@@ -58,8 +69,6 @@ ground-tells j k h l same =
     let back : SameGround k j = λ e n. sym (same e n) in
     let w : width (scaleOf j) ≡ width (scaleOf k) = omega (arith, from-west j k h l same, to-east j k h l same, from-west k j l h back, to-east k j l h back) in
     let s : scaleOf j ≡ scaleOf k = width-tells (on-grid j h .scale) (on-grid k l .scale) w in
-    let e = westℕ (scaleOf j) (placeOf j) in
-    let n = northℕ (scaleOf j) (placeOf j) in
-    let c : Lies (scaleOf j) (placeOf j) e n = record { west = omega arith; east = omega (arith, some-width (on-grid j h .scale)); south = omega (arith, some-height (on-grid j h .scale)); north = omega arith } in
-    let g : owns (groundOf j) (pos e) (pos n) ≡ true = lies-owns (placeOf j) (on-grid j h) e n c in
-    same-answer (sym (owns-answers j (pos e) (pos n) h g) ∙ ap (λ (t : ℕ). sheetAt t (pos e) (pos n)) s ∙ owns-answers k (pos e) (pos n) l (sym (same (pos e) (pos n)) ∙ g))
+    let e = pos (left j h) in
+    let n = pos (top j h) in
+    same-answer (sym (owns-answers j e n h (corner-owned j h)) ∙ ap (λ (t : ℕ). sheetAt t e n) s ∙ owns-answers k e n l (sym (same e n) ∙ corner-owned j h))

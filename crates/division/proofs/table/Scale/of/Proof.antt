@@ -1,5 +1,4 @@
 -- Past the test it is a sheet, and has a scale. Assumes nothing.
-use mathlib.Core.Path.{_≡_}
 use borrow.Author.Needs.{needs}
 use Rattle.refusal.proofs.PaperLaws.{fails, holds}
 use Rattle.division.proofs.table.Scale.of.Statement.{statement}
