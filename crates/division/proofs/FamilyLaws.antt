@@ -23,7 +23,7 @@ grown-deep s (suc p) e = refl
 -- ---- a scale that is made from the area
 
 module _ {s : ℕ} (h : IsScale s) (e : parentScale s ≡ 0) where
-  top : made s ≡ ofArea (rows s) (columns s)
+  pub top : made s ≡ ofArea (rows s) (columns s)
   top = rules h .grows ∙ ap (grown s) e
 
   pub some-columns : 0 < columns s
@@ -43,7 +43,7 @@ module _ {s : ℕ} (h : IsScale s) (e : parentScale s ≡ 0) where
 -- ---- a scale that is made from its parent's
 
 module _ {s : ℕ} (h : IsScale s) (e : parentScale s ≡ 0 → ⊥) where
-  deep : made s ≡ ofScale (parentScale s) (made (parentScale s)) (parts s)
+  pub deep : made s ≡ ofScale (parentScale s) (made (parentScale s)) (parts s)
   deep = rules h .grows ∙ grown-deep s (parentScale s) e
 
   pub above : IsScale (parentScale s)

@@ -1,0 +1,14 @@
+pub mod DecimalLaws
+pub mod ValueLaws
+pub mod SplitLaws
+pub mod FieldLaws
+pub mod SpellLaws
+pub mod LabelTheorems
+pub mod SizeLaws
+pub mod LengthLaws
+pub mod WritingLaws
+pub mod ByteLaws
+pub mod WritingTheorems
+pub mod ScanLaws
+pub mod ReckonLaws
+pub mod NamedLaws

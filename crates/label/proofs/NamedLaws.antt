@@ -1,0 +1,93 @@
+-- The scale that a first number and a count of fields name has them, and a label is read by its numbers alone. Assumes nothing.
+use mathlib.Core.Path.{_≡_, refl}
+use mathlib.Core.Bool.{Bool, true, false, cond, _&&_}
+use mathlib.Core.List.{List, [], _∷_, List·Memᴰ, List·Memᴰ·head}
+use Prim.Native.Nat.{ℕ, _+_, _-_, _≤_}
+use native.Mathlib.Omega.{arith}
+use borrow.Author.Tests.{eqb-true}
+use lib.ListN.{length, getD, take, drop, replicate, length-drop, length-append}
+use lib.Seq.{take-at}
+use Rattle.refusal.specs.Paper.{Paper, refused, refuse_unless_, _>>_}
+use Rattle.division.specs.Words.{_=?_, from, keep}
+use Rattle.division.specs.Table.{isScale, scales, made, table, tableRow}
+use Rattle.division.specs.Given.{IsScale}
+use Rattle.division.proofs.TestLaws.{both}
+use Rattle.division.proofs.TableLaws.{is-scale}
+use Rattle.division.proofs.MemberLaws.{from-has, keep-has}
+use Rattle.label.specs.Label.{markOf, countOf, scaleNamed, wellFormed, numbersIn, sheetNamed, readLabel}
+use Rattle.label.specs.Given.{packed, numbersOf, Fields}
+
+-- ---- the scale
+
+pub record Named (m n s : ℕ) : Type 0 where
+  pub scale : IsScale s
+  pub mark : markOf s ≡ m
+  pub count : 1 + countOf (made s) ≡ n
+
+first-in : (l : List ℕ) → (getD l 0 0 ≡ 0 → ⊥) → List·Memᴰ (getD l 0 0) l
+first-in [] n = absurd (n refl)
+first-in (x ∷ l) n = List·Memᴰ·head refl
+
+pub named : (mark count : ℕ) → (scaleNamed mark count ≡ 0 → ⊥) → Named mark count (scaleNamed mark count)
+unfolding scaleNamed
+named mark count n =
+    let test : ℕ → Bool = λ s. markOf s =? mark && 1 + countOf (made s) =? count in
+    let s = scaleNamed mark count in
+    let k = keep-has test scales (first-in (keep test scales) n) in
+    let m = from-has 1 9 (k .0) in
+    let b = both (markOf s =? mark) (1 + countOf (made s) =? count) (k .1) in
+    record {
+      scale = record { one = m .0; nine = omega (arith, m .1) };
+      mark = eqb-true (markOf s) mark (b .0);
+      count = eqb-true (1 + countOf (made s)) count (b .1);
+    }
+
+-- no numbers name no scale
+none-named : scaleNamed 0 0 ≡ 0
+unfolding scaleNamed markOf countOf table tableRow from keep
+none-named = refl
+
+-- ---- the label
+
+abbrev pub scaleFrom : List ℕ → ℕ
+scaleFrom vs = scaleNamed (getD vs 0 0) (length vs)
+
+-- a label of these numbers; one that is not well formed has none
+abbrev pub readNumbers : List ℕ → Paper ℕ
+readNumbers vs = (refuse 4 unless isScale (scaleFrom vs)) >> sheetNamed (scaleFrom vs) (drop 1 vs)
+
+pub read-numbers : (bytes : List ℕ) → readLabel bytes ≡ readNumbers (numbersOf bytes)
+unfolding readLabel numbersOf
+read-numbers bytes = by (wellFormed bytes)
+  where
+    by : (b : Bool) → ((refuse 4 unless b) >> readNumbers (numbersIn bytes)) ≡ readNumbers (cond b (numbersIn bytes) [])
+    by true = refl
+    by false = rw none-named
+
+pub read-none : (vs : List ℕ) → scaleFrom vs ≡ 0 → readNumbers vs ≡ refused 4 0
+read-none vs e = rw e
+
+module _ (vs : List ℕ) (n : scaleFrom vs ≡ 0 → ⊥) where
+  pub some-numbers : 1 ≤ length vs
+  some-numbers = omega (arith, named (getD vs 0 0) (length vs) n .count)
+
+  pub fields-named : Fields (scaleFrom vs) (drop 1 vs)
+  fields-named =
+      let r = named (getD vs 0 0) (length vs) n in
+      record { scale = r .scale; enough = omega (arith, r .count, length-drop 1 vs) }
+
+  pub read-named : readNumbers vs ≡ sheetNamed (scaleFrom vs) (drop 1 vs)
+  read-named = rw (is-scale (named (getD vs 0 0) (length vs) n .scale))
+
+-- ---- numbers as the code holds them
+
+pub first-packed : (vs : List ℕ) → getD (packed vs .values) 0 0 ≡ getD vs 0 0
+first-packed [] = refl
+first-packed (v ∷ vs) = refl
+
+pub others-packed : (vs : List ℕ) → take (length vs - 1) (drop 1 (packed vs .values)) ≡ drop 1 vs
+others-packed [] = refl
+others-packed (v ∷ vs) = take-at vs (replicate (8 - length (v ∷ vs)) 0) (length (v ∷ vs) - 1) (omega arith)
+
+pub within-packed : (vs : List ℕ) → length vs ≤ length (packed vs .values)
+within-packed vs = omega (arith, length-append vs (replicate (8 - length vs) 0))

@@ -1,0 +1,47 @@
+-- A number below a thousand has one, two or three digits, more of them the larger it is. Assumes nothing.
+use mathlib.Core.Path.{_≡_, _∙_}
+use mathlib.Core.Bool.{Bool, true, false}
+use mathlib.Core.List.{[], _∷_}
+use mathlib.Core.Logic.{⊎-elim}
+use Prim.Native.Nat.{ℕ, _+_, _/_, _%_, _≤_, _<_}
+use native.Mathlib.Omega.{arith}
+use borrow.Author.Tests.{le-leb, lt-leb}
+use lib.ListN.{length}
+use Rattle.division.specs.Words.{_≤?_}
+use Rattle.division.proofs.TestLaws.{le-or-less}
+use Rattle.label.specs.Text.{decimal}
+use Rattle.label.proofs.DecimalLaws.{decimal-step, decimal-one}
+
+pub decimal-1 : (v : ℕ) → v < 10 → decimal v ≡ (48 + v % 10) ∷ []
+unfolding decimal
+decimal-1 v h = let e : v % 10 ≡ v = omega arith in rw e (decimal-one 19 v h)
+
+pub decimal-2 : (v : ℕ) → 10 ≤ v → v < 100 → decimal v ≡ (48 + v / 10 % 10) ∷ (48 + v % 10) ∷ []
+unfolding decimal
+decimal-2 v g h =
+    let e : v / 10 % 10 ≡ v / 10 = omega arith in
+    decimal-step 19 v g (omega arith) ∙ rw (e, decimal-one 18 (v / 10) (omega arith))
+
+pub decimal-3 : (v : ℕ) → 100 ≤ v → v < 1_000 → decimal v ≡ (48 + v / 100) ∷ (48 + v / 10 % 10) ∷ (48 + v % 10) ∷ []
+unfolding decimal
+decimal-3 v g h =
+    let e : v / 10 / 10 ≡ v / 100 = omega arith in
+    decimal-step 19 v (omega arith) (omega arith) ∙ rw (decimal-step 18 (v / 10) (omega arith) (omega arith), decimal-one 17 (v / 10 / 10) (omega arith), e)
+
+-- ---- how many digits
+
+abbrev bit : Bool → ℕ
+bit false = 0
+bit true = 1
+
+size : (v : ℕ) → v < 1_000 → length (decimal v) ≡ 1 + bit (10 ≤? v) + bit (100 ≤? v)
+size v h =
+    ⊎-elim (λ a. ⊎-elim (λ b. rw (decimal-3 v b h, le-leb 10 v a, le-leb 100 v b))
+    (λ b. rw (decimal-2 v a b, le-leb 10 v a, lt-leb 100 v b)) (le-or-less 100 v))
+    (λ a. rw (decimal-1 v a, lt-leb 10 v a, lt-leb 100 v (omega arith))) (le-or-less 10 v)
+
+bit-rises : (a v w : ℕ) → v ≤ w → bit (a ≤? v) ≤ bit (a ≤? w)
+bit-rises a v w h = ⊎-elim (λ l. rw (le-leb a v l, le-leb a w (omega arith)) (omega arith)) (λ l. rw (lt-leb a v l) (omega arith)) (le-or-less a v)
+
+pub size-rises : (v w : ℕ) → v ≤ w → w < 1_000 → length (decimal v) ≤ length (decimal w)
+size-rises v w h l = omega (arith, size v (omega arith), size w l, bit-rises 10 v w h, bit-rises 100 v w h)

@@ -1,0 +1,120 @@
+-- A text grows by bytes, fields and parents, and is laid into room byte by byte. Assumes nothing.
+use mathlib.Core.Path.{_≡_, refl, ap, _∙_, subst}
+use mathlib.Core.Bool.{true}
+use mathlib.Core.List.{List, [], _∷_, _++_, flatMap, append-assoc, append-nil}
+use Prim.Native.Nat.{ℕ, _+_, _/_, _%_, _≤_, _<_}
+use native.Mathlib.Nat.{mod-lt, zero-add}
+use native.Mathlib.Numerals.{add-one}
+use native.Mathlib.Omega.{arith}
+use borrow.Author.Tests.{le-leb, lt-leb}
+use lib.ListN.{length, length-append, take, drop, getD, set, length-set}
+use lib.Seq.{take-suc-set, length-take-le, paste-suc}
+use Rattle.refusal.specs.Paper.{answer, refused, laid, counted, roomAfter}
+use Rattle.division.specs.Table.{Made, made, rows, columns, parentScale, parts, perParent}
+use Rattle.division.specs.Sheet.{placeAt, isSheet, scaleOf, indexOf}
+use Rattle.division.proofs.MadeLaws.{Sound, quot, left-few}
+use Rattle.division.proofs.TableLaws.{rules}
+use Rattle.division.proofs.NumberLaws.{ranged, indexed}
+use Rattle.division.proofs.FamilyLaws.{top, deep, some-columns, parted, parent-indexed}
+use Rattle.label.specs.declared.writing.Text.{Text}
+use Rattle.label.specs.Text.{decimal}
+use Rattle.label.specs.Label.{markOf, fieldsOf, labelOf}
+use Rattle.label.specs.Given.{bytesOf, Appended, Spelt, Digits, behind, areaFields, AreaRoom, indexFields, Room}
+use Rattle.label.proofs.FieldLaws.{fields-area, fields-part}
+use Rattle.label.proofs.LengthLaws.{Short, behind-more, more-long, sizes, label-is, label-long, label-high}
+
+-- ---- bytes behind bytes
+
+pub with-one : (bytes : List ℕ) (n b : ℕ) → n < length bytes → take (n + 1) (set bytes n b) ≡ take n bytes ++ (b ∷ [])
+with-one bytes n b h = rw add-one (take-suc-set bytes n b h)
+
+pub then : {t u r : Text} {xs ys : List ℕ} → Appended t u xs → Appended u r ys → Appended t r (xs ++ ys)
+then {t} {u} {r} {xs} {ys} p q = record {
+  longer = omega (arith, p .longer, q .longer, length-append xs ys);
+  bytes = q .bytes ∙ ap (λ (l : List ℕ). l ++ ys) (p .bytes) ∙ append-assoc (bytesOf t) xs ys;
+}
+
+-- ---- the fields of an index
+
+pub behind-two : (a b : ℕ) → behind (a ∷ b ∷ []) ≡ (45 ∷ decimal a) ++ (45 ∷ decimal b)
+unfolding flatMap
+behind-two a b = ap (λ (l : List ℕ). (45 ∷ decimal a) ++ l) (append-nil (45 ∷ decimal b))
+
+-- of a scale that is made from the area
+module _ {t : Text} {s i : ℕ} (x : Room t s i) (e : parentScale s ≡ 0) where
+  pub top-fields : indexFields s i ≡ areaFields (columns s) i
+  top-fields = ap (λ (m : Made). fieldsOf m (placeAt m i)) (top (x .indexed .scale) e) ∙ fields-area (rows s) (columns s) i
+
+  pub top-room : AreaRoom t (columns s) i
+  top-room =
+      let c : 0 < columns s = some-columns (x .indexed .scale) e in
+      let f : (100 + rows s < 1_000) × (columns s < 1_000) = subst Short (top (x .indexed .scale) e) (sizes (x .indexed .scale) .short) in
+      record {
+        some = c;
+        few-row = omega (arith, quot c (x .indexed .in-sheets), f .0);
+        few-column = omega (arith, mod-lt i c, f .1);
+        room = rw top-fields at (x .room);
+      }
+
+-- of a scale that is made from its parent's
+module _ {t : Text} {s i : ℕ} (x : Room t s i) (e : parentScale s ≡ 0 → ⊥) where
+  deep-fields : indexFields s i ≡ (i % perParent s + 1) ∷ indexFields (parentScale s) (i / perParent s)
+  deep-fields =
+      ap (λ (m : Made). fieldsOf m (placeAt m i)) (deep (x .indexed .scale) e)
+      ∙ fields-part (parentScale s) (made (parentScale s)) (parts s) i (subst Sound (deep (x .indexed .scale) e) (rules (x .indexed .scale) .sound))
+
+  deep-long : length (behind (indexFields s i)) ≡ 1 + length (decimal (i % perParent s + 1)) + length (behind (indexFields (parentScale s) (i / perParent s)))
+  deep-long = ap (λ (fs : List ℕ). length (behind fs)) deep-fields ∙ more-long (i % perParent s + 1) (indexFields (parentScale s) (i / perParent s))
+
+  pub deep-number : Digits t (45 ∷ decimal (i % perParent s + 1)) (i % perParent s + 1)
+  deep-number =
+      let f : perParent s < 1_000 = subst Short (deep (x .indexed .scale) e) (sizes (x .indexed .scale) .short) .0 in
+      record { room = omega (arith, x .room, deep-long); few = omega (arith, left-few (parts s) i (parted (x .indexed .scale) e .some)) }
+
+  module _ {u : Text} (p : Appended t u (45 ∷ decimal (i % perParent s + 1))) where
+    pub deep-room : Room u (parentScale s) (i / perParent s)
+    deep-room = record { indexed = parent-indexed (x .indexed .scale) e i (x .indexed); room = omega (arith, x .room, deep-long, p .longer) }
+
+    pub deep-spelt : {r : Text} → Appended u r (behind (indexFields (parentScale s) (i / perParent s))) → Appended t r (behind (indexFields s i))
+    deep-spelt q = rw (deep-fields, behind-more (i % perParent s + 1)) (then p q)
+
+-- ---- the label of a sheet: the first number into an empty text, and the fields behind it
+
+module _ (n : ℕ) (h : isSheet n ≡ true) {t : Text} (none : t .len ≡ 0) where
+  pub mark-room : Digits t (decimal (markOf (scaleOf n))) (markOf (scaleOf n))
+  mark-room = record { room = omega (arith, label-long n h, label-high n h); few = sizes (ranged n h .scale) .mark-few }
+
+  module _ {u : Text} (p : Appended t u (decimal (markOf (scaleOf n)))) where
+    pub fields-room : Room u (scaleOf n) (indexOf n)
+    fields-room = record { indexed = indexed n h; room = omega (arith, p .longer, label-long n h, label-high n h) }
+
+    pub sheet-spelt : {r : Text} → Appended u r (behind (indexFields (scaleOf n) (indexOf n))) → Spelt r (labelOf n)
+    sheet-spelt q = record { long = omega (arith, p .longer, q .longer, label-long n h); same = then p q .bytes ∙ rw (none, label-is n) }
+
+-- ---- the loop that lays a text into room
+
+pub record Laying (room₀ bytes : List ℕ) (len : ℕ) (room : List ℕ) (i : ℕ) : Type 0 where
+  pub upto : i ≤ len
+  pub whole : len ≤ length bytes
+  pub fits : len ≤ length room₀
+  pub same : length room ≡ length room₀
+  pub copied : room ≡ take i bytes ++ drop i room₀
+
+pub laying-more : {room₀ bytes : List ℕ} {len : ℕ} {room : List ℕ} {i : ℕ} → Laying room₀ bytes len room i → i < len → Laying room₀ bytes len (set room i (getD bytes i 0)) (i + 1)
+laying-more {room₀} {bytes} {len} {room} {i} w lt = record {
+  upto = omega arith;
+  whole = w .whole;
+  fits = w .fits;
+  same = length-set room i (getD bytes i 0) ∙ w .same;
+  copied = rw (w .copied, add-one) (rw (zero-add, zero-add) at (paste-suc room₀ 0 bytes i 0 (omega arith) (omega arith)));
+}
+
+-- at its end, and where the room is too short
+pub laying-done : {room₀ bytes : List ℕ} {len : ℕ} {room : List ℕ} {i : ℕ} → Laying room₀ bytes len room i → len ≤ i → (answer len ≡ counted (laid (take len bytes) (length room₀))) × (room ≡ roomAfter (laid (take len bytes) (length room₀)) room₀)
+laying-done {room₀} {bytes} {len} {room} {i} w h =
+    let e : i ≡ len = omega arith in
+    let n : length (take len bytes) ≡ len = length-take-le len bytes (w .whole) in
+    simp (n, le-leb len (length room₀) (w .fits)) (refl, rw e at (w .copied))
+
+pub laid-none : (bytes : List ℕ) (len room : ℕ) → len ≤ length bytes → room < len → laid (take len bytes) room ≡ refused 10 len
+laid-none bytes len room w h = rw (length-take-le len bytes w, lt-leb len room h)

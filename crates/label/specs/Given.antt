@@ -1,0 +1,93 @@
+-- What the inner functions take for granted and give: the public ones test it first.
+use Prim.Native.Nat.{ℕ, _+_, _-_, _*_, _/_, _%_, _≤_, _<_}
+use Prim.Native.Char.{code}
+use mathlib.Core.Path.{_≡_}
+use mathlib.Core.Bool.{cond, _&&_}
+use mathlib.Core.List.{List, [], _∷_, _++_, map, flatMap}
+use lib.ListN.{length, take, replicate}
+use Rattle.division.specs.Words.{between}
+use Rattle.division.specs.Table.{Made, made}
+use Rattle.division.specs.Sheet.{indexAt, partIndex, placeAt}
+use Rattle.division.specs.Given.{IsScale, Indexed}
+use Rattle.label.specs.declared.reading.Numbers.{Numbers}
+use Rattle.label.specs.declared.reading.Reckoned.{Reckoned}
+use Rattle.label.specs.declared.reading.Reckoned.the-variants.{At, Out}
+use Rattle.label.specs.declared.writing.Text.{Text}
+use Rattle.label.specs.Text.{decimal}
+use Rattle.label.specs.Label.{wellFormed, numbersIn, inRange, placeFrom, countOf, fieldsOf}
+
+-- ---- reading
+
+-- numbers as the code holds them: how many, and zeros behind them
+abbrev pub packed : List ℕ → Numbers
+packed vs = record { count = length vs; values = vs ++ replicate (8 - length vs) 0 }
+
+-- the numbers of a label that is well formed, and none of any other
+unfoldable pub numbersOf : List ℕ → List ℕ
+numbersOf bytes = cond (wellFormed bytes) (numbersIn bytes) []
+
+-- a scale, and at least as many fields as its labels have behind the first number
+pub record Fields (s : ℕ) (fields : List ℕ) : Type 0 where
+  pub scale : IsScale s
+  pub enough : countOf (made s) ≤ length fields
+
+-- the index that fields name, if all are in range, by how the scale is made
+unfoldable pub reckon : Made → List ℕ → Reckoned
+reckon m fields = cond (inRange m fields) (At (indexAt m (placeFrom m fields))) Out
+
+-- of the area, by its row and its column
+abbrev pub reckonArea : ℕ → ℕ → ℕ → ℕ → Reckoned
+reckonArea rows columns row column =
+    cond (between 101 (100 + rows) row && between 1 columns column) (At ((row - 101) * columns + (column - 1))) Out
+
+-- of a part of a parent that is reckoned
+abbrev pub reckonPart : ℕ → ℕ → Reckoned → Reckoned
+reckonPart k number (At up) = cond (between 1 (k * k) number) (At (partIndex k up number)) Out
+reckonPart k number Out = Out
+
+-- parts in k × k of a parent that is reckoned have few indexes
+pub record PartFields (k : ℕ) (above : Reckoned) : Type 0 where
+  pub few : k ≤ 25
+  pub up : (up : ℕ) → above ≡ At up → (up + 1) * (k * k) ≤ 6_000_000
+
+-- ---- writing
+
+-- the bytes that a text holds, and a text with more bytes behind it
+abbrev pub bytesOf : Text → List ℕ
+bytesOf t = take (t .len) (t .bytes)
+
+pub record Appended (t r : Text) (more : List ℕ) : Type 0 where
+  pub longer : r .len ≡ t .len + length more
+  pub bytes : bytesOf r ≡ bytesOf t ++ more
+
+-- a text is those bytes
+pub record Spelt (t : Text) (bytes : List ℕ) : Type 0 where
+  pub long : t .len ≡ length bytes
+  pub same : bytesOf t ≡ bytes
+
+-- room for more bytes, in which stands a number of at most three digits
+pub record Digits (t : Text) (more : List ℕ) (v : ℕ) : Type 0 where
+  pub room : t .len + length more ≤ 16
+  pub few : v < 1_000
+
+-- fields, each behind a hyphen
+abbrev pub behind : List ℕ → List ℕ
+behind fs = flatMap (λ other. code "-" ∷ other) (map decimal fs)
+
+-- the fields of an index of the area in columns, and room for them
+abbrev pub areaFields : ℕ → ℕ → List ℕ
+areaFields c i = (101 + i / c) ∷ (1 + i % c) ∷ []
+
+pub record AreaRoom (t : Text) (c i : ℕ) : Type 0 where
+  pub some : 0 < c
+  pub few-row : 101 + i / c < 1_000
+  pub few-column : 1 + i % c < 1_000
+  pub room : t .len + length (behind (areaFields c i)) ≤ 16
+
+-- the fields of an index of a scale, and room for them
+abbrev pub indexFields : ℕ → ℕ → List ℕ
+indexFields s i = fieldsOf (made s) (placeAt (made s) i)
+
+pub record Room (t : Text) (s i : ℕ) : Type 0 where
+  pub indexed : Indexed s i
+  pub room : t .len + length (behind (indexFields s i)) ≤ 16

@@ -1,0 +1,89 @@
+-- Labels. Document 01, "Labels".
+use Prim.Native.Nat.{ℕ, _+_, _-_, _*_}
+use Prim.Native.Char.{code}
+use mathlib.Core.Bool.{Bool, true, false, not, _&&_, _||_}
+use mathlib.Core.List.{List, [], _∷_, map}
+use lib.ListN.{length, getD, drop}
+use Rattle.refusal.specs.Paper.{Paper, answer, refuse_unless_, _>>_, laid}
+use Rattle.division.specs.declared.Place.{Place}
+use Rattle.division.specs.Words.{_=?_, between, keep}
+use Rattle.division.specs.Table.{Made, ofArea, ofScale, isScale, scales, made}
+use Rattle.division.specs.Sheet.{numberIn, parentPlace, childPlace, isSheet, sheetOf, scaleOf, placeOf}
+use Rattle.label.specs.Text.{every, split, join, value, decimal}
+
+-- "Fields": the first number of a scale's labels, for scales 1 to 9
+unfoldable pub markOf : ℕ → ℕ
+markOf s = getD (0 ∷ 250 ∷ 100 ∷ 50 ∷ 25 ∷ 10 ∷ 5 ∷ 2 ∷ 1 ∷ 5 ∷ []) s 0
+
+-- the fields after it: the row counted from 101 and the column from 1; before them the number in the parent, and the parent's fields
+unfoldable pub fieldsOf : Made → Place → List ℕ
+fieldsOf (ofArea r c) p = (101 + p .row) ∷ (1 + p .column) ∷ []
+fieldsOf (ofScale s m k) p = numberIn k p ∷ fieldsOf m (parentPlace k p)
+
+-- how many they are
+unfoldable pub countOf : Made → ℕ
+countOf (ofArea r c) = 2
+countOf (ofScale s m k) = 1 + countOf m
+
+-- "5: a label field out of range"
+unfoldable pub inRange : Made → List ℕ → Bool
+inRange (ofArea r c) fields = between 101 (100 + r) (getD fields 0 0) && between 1 c (getD fields 1 0)
+inRange (ofScale s m k) fields = between 1 (k * k) (getD fields 0 0) && inRange m (drop 1 fields)
+
+-- the place that they name
+unfoldable pub placeFrom : Made → List ℕ → Place
+placeFrom (ofArea r c) fields = record { row = getD fields 0 0 - 101; column = getD fields 1 0 - 1 }
+placeFrom (ofScale s m k) fields = childPlace k (placeFrom m (drop 1 fields)) (getD fields 0 0)
+
+-- "The first number and the count of fields together decide the scale"; 0 for no scale
+unfoldable pub scaleNamed : ℕ → ℕ → ℕ
+scaleNamed mark count = getD (keep (λ s. markOf s =? mark && 1 + countOf (made s) =? count) scales) 0 0
+
+-- "only digits and hyphens"
+abbrev pub isLabelByte : ℕ → Bool
+isLabelByte b = between (code "0") (code "9") b || b =? code "-"
+
+-- "no empty field, no leading zero (a field "0" alone is well formed)"
+abbrev pub isField : List ℕ → Bool
+isField [] = false
+isField (d ∷ []) = true
+isField (d ∷ e ∷ ds) = not (d =? code "0")
+
+-- "1 to 16 bytes, only digits and hyphens, no empty field, no leading zero"
+unfoldable pub wellFormed : List ℕ → Bool
+wellFormed bytes = (between 1 16 (length bytes) && every isLabelByte bytes) && every isField (split (code "-") bytes)
+
+-- the numbers of the fields, the first number first
+abbrev pub numbersIn : List ℕ → List ℕ
+numbersIn bytes = map value (split (code "-") bytes)
+
+-- the sheet of a scale that fields name. "Then ranges"
+unfoldable pub sheetNamed : ℕ → List ℕ → Paper ℕ
+sheetNamed s fields = do
+  refuse 5 unless inRange (made s) fields
+  answer (sheetOf s (placeFrom (made s) fields))
+
+-- label to sheet. "Form first: .., a known first number with its count of fields"
+unfoldable pub readLabel : List ℕ → Paper ℕ
+readLabel bytes = do
+  let numbers = numbersIn bytes
+  let s = scaleNamed (getD numbers 0 0) (length numbers)
+  refuse 4 unless wellFormed bytes
+  refuse 4 unless isScale s
+  sheetNamed s (drop 1 numbers)
+
+-- sheet to label
+unfoldable pub labelOf : ℕ → List ℕ
+labelOf n = join (code "-") (map decimal (markOf (scaleOf n) ∷ fieldsOf (made (scaleOf n)) (placeOf n)))
+
+-- "Label writing: 3, 10"
+unfoldable pub writeLabel : ℕ → ℕ → Paper (List ℕ)
+writeLabel n room = do
+  refuse 3 unless isSheet n
+  laid (labelOf n) room
+
+-- the length of a sheet's label by itself
+unfoldable pub labelLength : ℕ → Paper ℕ
+labelLength n = do
+  refuse 3 unless isSheet n
+  answer (length (labelOf n))

@@ -1,0 +1,217 @@
+// Label to sheet: form, then scale, then ranges.
+use division::Found;
+use division::table::Scale;
+use refusal::Refusal;
+ghost use mathlib.Core.Path.{_≡_};
+ghost use Prim.Native.Nat.{_*_, _≤_};
+ghost use mathlib.Core.List.{[]};
+ghost use lib.ListN.{length};
+ghost use Rattle.division.specs.Words.{between};
+ghost use Rattle.division.specs.Table.{made};
+ghost use Rattle.division.specs.Answers.{sheetPaper};
+ghost use Rattle.label.specs.Label.{scaleNamed, sheetNamed, readLabel};
+ghost use Rattle.label.specs.Given.{packed, numbersOf, reckon, Fields, reckonArea, reckonPart, PartFields};
+
+// The numbers of a label's fields, the first number first; no number of a label that is not well formed. 16 bytes hold at most
+// eight fields, and a field at most 16 digits.
+pub struct Numbers {
+    pub count: usize,
+    pub values: [u64; 8],
+}
+
+fn none() -> Numbers
+    ensures { λ r. ⌜ r ≡ packed [] ⌝ }
+{
+    Numbers {
+        count: 0,
+        values: [0; 8],
+    }
+}
+
+fn wide(b: u8) -> u64
+    ensures { λ r. ⌜ r ≡ b ⌝ }
+{
+    b as u64
+}
+
+// One pass over the bytes. A field is open from its first digit, which is not a zero with a digit behind it, to its hyphen.
+fn numbers_in(bytes: &[u8]) -> Numbers
+    requires { ⌜ length (now bytes) ≤ 16 ⌝ }
+    ensures { λ r. ⌜ r ≡ packed (numbersOf (now (bytes .entry))) ⌝ }
+{
+    let mut values = [0u64; 8];
+    let mut n: usize = 0;
+    let mut some = false;
+    let mut cur: u64 = 0;
+    let mut i: usize = 0;
+    while i < bytes.len() {
+        let b = bytes[i];
+        if b == b'-' {
+            if !some {
+                return none();
+            }
+            values[n] = cur;
+            n += 1;
+            some = false;
+            cur = 0;
+        } else {
+            if b < b'0' {
+                return none();
+            }
+            if b'9' < b {
+                return none();
+            }
+            let d = wide(b - b'0');
+            if some {
+                if cur == 0 {
+                    return none();
+                }
+                cur = cur * 10 + d;
+            } else {
+                some = true;
+                cur = d;
+            }
+        }
+        i += 1;
+    }
+    if !some {
+        return none();
+    }
+    values[n] = cur;
+    let count = n + 1;
+    Numbers {
+        count: count,
+        values: values,
+    }
+}
+
+// The scale that a first number and a count of fields name, 0 for none.
+fn scale_named(mark: u64, count: usize) -> u32
+    ensures { λ r. ⌜ r ≡ scaleNamed mark count ⌝ }
+{
+    match mark {
+        250 => match count {
+            3 => 1,
+            _ => 0,
+        },
+        100 => match count {
+            3 => 2,
+            _ => 0,
+        },
+        50 => match count {
+            3 => 3,
+            _ => 0,
+        },
+        25 => match count {
+            4 => 4,
+            _ => 0,
+        },
+        10 => match count {
+            4 => 5,
+            _ => 0,
+        },
+        5 => match count {
+            5 => 6,
+            6 => 9,
+            _ => 0,
+        },
+        2 => match count {
+            4 => 7,
+            _ => 0,
+        },
+        1 => match count {
+            5 => 8,
+            _ => 0,
+        },
+        _ => 0,
+    }
+}
+
+// An index of a scale, or a field that is out of range.
+pub enum Reckoned {
+    At(u32),
+    Out,
+}
+
+// The index that the fields behind the first number name at a scale, by way of its parents.
+fn index_from(s: u32, fields: &[u64]) -> Reckoned
+    requires { ⌜ Fields s (now fields) ⌝ }
+    ensures { λ r. ⌜ r ≡ reckon (made s) (now (fields .entry)) ⌝ }
+{
+    let t = Scale(s).row();
+    let parent = t.parent;
+    if parent == 0 {
+        let row = fields[0];
+        let column = fields[1];
+        return area_index(t.rows, t.columns, row, column);
+    }
+    let number = fields[0];
+    let above = index_from(parent, &fields[1..]);
+    part_index(t.parts, number, above)
+}
+
+fn area_index(rows: u32, columns: u32, row: u64, column: u64) -> Reckoned
+    requires { ⌜ rows * columns ≤ 6_000_000 ⌝ }
+    ensures { λ r. ⌜ r ≡ reckonArea rows columns row column ⌝ }
+{
+    let last = 100 + rows as u64;
+    let good = ((101 <= row) & (row <= last)) & ((1 <= column) & (column <= columns as u64));
+    if !good {
+        return Reckoned::Out;
+    }
+    let up = (row - 101) as u32;
+    let left = (column - 1) as u32;
+    Reckoned::At(up * columns + left)
+}
+
+fn part_index(k: u32, number: u64, above: Reckoned) -> Reckoned
+    requires { ⌜ PartFields k above ⌝ }
+    ensures { λ r. ⌜ r ≡ reckonPart k number above ⌝ }
+{
+    match above {
+        Reckoned::Out => Reckoned::Out,
+        Reckoned::At(up) => {
+            let each = k * k;
+            let good = (1 <= number) & (number <= each as u64);
+            if !good {
+                return Reckoned::Out;
+            }
+            let j = (number - 1) as u32;
+            Reckoned::At(up * each + j)
+        }
+    }
+}
+
+fn is_length(n: usize) -> bool
+    ensures { λ r. ⌜ r ≡ between 1 16 n ⌝ }
+{
+    (1 <= n) & (n <= 16)
+}
+
+// The sheet that a label names.
+pub fn read_label(bytes: &[u8]) -> Found
+    ensures { λ r. ⌜ sheetPaper r ≡ readLabel (now (bytes .entry)) ⌝ }
+{
+    if !is_length(bytes.len()) {
+        return Found::Refused(Refusal::LabelForm);
+    }
+    let numbers = numbers_in(bytes);
+    let values = numbers.values;
+    let count = numbers.count;
+    let s = scale_named(values[0], count);
+    if s == 0 {
+        return Found::Refused(Refusal::LabelForm);
+    }
+    sheet_from(s, &values[1..count])
+}
+
+// The sheet of a scale that fields name.
+fn sheet_from(s: u32, fields: &[u64]) -> Found
+    requires { ⌜ Fields s (now fields) ⌝ }
+    ensures { λ r. ⌜ sheetPaper r ≡ sheetNamed s (now (fields .entry)) ⌝ }
+{
+    match index_from(s, fields) {
+        Reckoned::Out => Found::Refused(Refusal::FieldRange),
+        Reckoned::At(i) => Found::Sheet(Scale(s).row().first + i),
+    }
+}

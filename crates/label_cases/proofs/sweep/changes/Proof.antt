@@ -1,0 +1,43 @@
+-- `changes` is safe and ends: what is left of the label falls. Assumes nothing.
+use Prim.Native.Nat.{_-_, _≤_}
+use lib.ListN.{length}
+use borrow.Author.Needs.{needs}
+use Rattle.label_cases.proofs.sweep.changes.Statement.{statement}
+use Rattle.label_cases.proofs.sweep.changes.Tie as tie
+
+abbrev Inv-loop : tie.InvT-loop
+Inv-loop label sum₀ place₀ sum place = place ≤ length label
+
+abbrev μ-loop : tie.MeasureT-loop
+μ-loop label sum₀ place₀ sum place = length label - place
+
+loop-holds : tie.Need-loop-holds Inv-loop μ-loop
+loop-holds c = search needs
+
+changes-at-requires : tie.Need-changes-at-requires Inv-loop μ-loop
+changes-at-requires c κs = search needs
+
+add-place : tie.Need-add-place Inv-loop μ-loop
+add-place c = search needs
+
+loop-less : tie.Need-loop-less Inv-loop μ-loop
+loop-less c = search needs
+
+loop-again : tie.Need-loop-again Inv-loop μ-loop
+loop-again c = search needs
+
+returns : tie.Need-returns Inv-loop μ-loop
+returns c = search needs
+
+pub changes-spec : {M : Type 1} → statement M
+changes-spec =
+    tie.close
+    (tie.spec
+    Inv-loop
+    μ-loop
+    loop-holds
+    changes-at-requires
+    add-place
+    loop-less
+    loop-again
+    returns)
