@@ -10,7 +10,7 @@ use Rattle.refusal.specs.declared.Refusal.{Refusal}
 use Rattle.refusal.specs.declared.Refusal.the-variants.{PointOutside, NoScale, NoSheet, LabelForm, FieldRange, NoSuch, WindowOrder, WindowOutside, TooMany, Room, EndsEarly, BadNumber, PastLast, MoreBytes, NotRising, NameForm, NameScale}
 use Rattle.refusal.specs.declared.Laid.{Laid}
 use Rattle.refusal.specs.declared.Laid.the-variants.{Items, Refused}
-use Rattle.refusal.specs.Paper.{Paper, answer, refused, refuse_unless_, _>>_}
+use Rattle.refusal.specs.Paper.{Paper, answer, refused, isAnswer, refuse_unless_, _>>_}
 use Rattle.refusal.specs.Numbers.{onPaper, laidPaper}
 
 -- ---- a line of a cascade, by the code's flag for its test: `if !flag { return .. }`
@@ -58,6 +58,14 @@ read-refusal good bad MoreBytes = refl
 read-refusal good bad NotRising = refl
 read-refusal good bad NameForm = refl
 read-refusal good bad NameScale = refl
+
+-- a refusal is no answer
+pub no-answer : (A : Type 0) (why : Refusal) → isAnswer (onPaper {A = A} why) ≡ false
+no-answer A why = as-read (onPaper why) ∙ read-refusal (λ (x : A). true) (λ w. false) why
+  where
+    as-read : (p : Paper A) → isAnswer p ≡ read (λ (x : A). true) (λ w. false) p
+    as-read (answer x) = refl
+    as-read (refused n v) = refl
 
 -- a kind of answer that the paper gives back
 pub record Told {A X : Type 0} (paper : A → Paper X) : Type 0 where

@@ -1,0 +1,118 @@
+// The sheet or refusal of a line.
+use division::Found;
+use division::table::Scale;
+use label::reading::read_label;
+use refusal::Refusal;
+ghost use mathlib.Core.Path.{_≡_};
+ghost use lib.ListN.{length};
+ghost use Rattle.division.specs.Answers.{sheetPaper};
+ghost use Rattle.division.specs.Words.{between};
+ghost use Rattle.label.specs.Text.{every};
+ghost use Rattle.catalogue.specs.Line.{labelIn, isNameByte, isName, readLine, SameName, Tells};
+ghost use Rattle.catalogue.specs.Given.{withName, namedPaper};
+
+// Where a line's label ends: at its first space, or at the line's end.
+pub(crate) fn label_end(line: &[u8]) -> usize
+    ensures { λ r. ⌜ r ≡ length (labelIn (now (line .entry))) ⌝ }
+{
+    let mut i: usize = 0;
+    while i < line.len() {
+        if line[i] == b' ' {
+            break;
+        }
+        i += 1;
+    }
+    i
+}
+
+fn is_name_length(n: usize) -> bool
+    ensures { λ r. ⌜ r ≡ between 1 48 n ⌝ }
+{
+    (1 <= n) & (n <= 48)
+}
+
+fn all_name_bytes(name: &[u8]) -> bool
+    ensures { λ r. ⌜ r ≡ every isNameByte (now (name .entry)) ⌝ }
+{
+    let mut i: usize = 0;
+    while i < name.len() {
+        let b = name[i];
+        if b < 32 {
+            return false;
+        }
+        if b == 127 {
+            return false;
+        }
+        i += 1;
+    }
+    true
+}
+
+fn is_name(name: &[u8]) -> bool
+    ensures { λ r. ⌜ r ≡ isName (now (name .entry)) ⌝ }
+{
+    let n = name.len();
+    if !is_name_length(n) {
+        return false;
+    }
+    if !all_name_bytes(name) {
+        return false;
+    }
+    let last = n - 1;
+    (name[0] != b' ') & (name[last] != b' ')
+}
+
+// A sheet with a name behind its label. Both tests stand before the refusals, which keep the paper's order: 17, then 16.
+fn with_name(sheet: u32, name: &[u8]) -> Found
+    ensures { λ r. ⌜ sheetPaper r ≡ withName sheet (now (name .entry)) ⌝ }
+{
+    let s = Scale::of(sheet).0;
+    let formed = is_name(name);
+    if 6 < s {
+        return Found::Refused(Refusal::NameScale);
+    }
+    if !formed {
+        return Found::Refused(Refusal::NameForm);
+    }
+    Found::Sheet(sheet)
+}
+
+// The sheet of a line.
+pub fn read_line(line: &[u8]) -> Found
+    ensures { λ r. ⌜ sheetPaper r ≡ readLine (now (line .entry)) ⌝ }
+{
+    let end = label_end(line);
+    let found = read_label(&line[..end]);
+    if end == line.len() {
+        return found;
+    }
+    let start = end + 1;
+    named(found, &line[start..])
+}
+
+// What a label has found, with a name behind it.
+fn named(found: Found, name: &[u8]) -> Found
+    ensures { λ r. ⌜ sheetPaper r ≡ namedPaper (sheetPaper found) (now (name .entry)) ⌝ }
+{
+    match found {
+        Found::Refused(why) => Found::Refused(why),
+        Found::Sheet(n) => with_name(n, name),
+    }
+}
+
+// Two names are the same when their bytes are the same.
+pub fn same_name(a: &[u8], b: &[u8]) -> bool
+    ensures { λ r. ⌜ Tells r (SameName (now (a .entry)) (now (b .entry))) ⌝ }
+{
+    if a.len() != b.len() {
+        return false;
+    }
+    let mut i: usize = 0;
+    while i < a.len() {
+        if a[i] != b[i] {
+            return false;
+        }
+        i += 1;
+    }
+    true
+}
