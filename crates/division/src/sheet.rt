@@ -19,7 +19,7 @@ ghost use Rattle.division.specs.Sheet.{isSheet, areaIndex, areaPlace, pa
 ghost use Rattle.division.specs.Answers.{sheetPaper, spotPaper, cornersPaper};
 ghost use Rattle.division.specs.Given.{OnGrid, Indexed, Parted, Part, PartPlace, AreaPlace};
 
-pub(crate) fn is_sheet(n: u32) -> bool
+pub fn is_sheet(n: u32) -> bool
     ensures { λ r. ⌜ r ≡ isSheet n ⌝ }
 {
     n <= Scale::LAST_SHEET

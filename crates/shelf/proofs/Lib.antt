@@ -1,0 +1,6 @@
+pub mod GroupLaws
+pub mod NumberLaws
+pub mod WritingLaws
+pub mod ReadingLaws
+pub mod NumberTheorems
+pub mod ListTheorems

@@ -1,0 +1,181 @@
+-- A list is read entry by entry: what was placed and what is left to read make the whole. Assumes nothing.
+use mathlib.Core.Path.{_≡_, refl, sym, ap, _∙_}
+use mathlib.Core.Bool.{Bool, true, false, cond}
+use mathlib.Core.List.{List}
+use Prim.Native.Nat.{ℕ, zero, suc, _+_, _-_, _≤_, _<_}
+use native.Mathlib.Nat.{zero-add, sub-zero}
+use native.Mathlib.Numerals.{add-one, sub-one}
+use native.Mathlib.Omega.{arith}
+use borrow.Author.Tests.{le-leb, lt-leb, leb-true, ne-eqb}
+use lib.Dec.{leb}
+use lib.ListN.{length, drop, set, length-set, length-drop}
+use lib.Seq.{sets, sets-eq}
+use Rattle.refusal.specs.Paper.{Paper, answer, refused, refuse_unless_, roomFor}
+use Rattle.refusal.specs.Numbers.{onPaper}
+use Rattle.refusal.specs.declared.Refusal.{Refusal}
+use Rattle.refusal.proofs.PaperLaws.{on-paper}
+use Rattle.division.specs.Sheet.{isSheet}
+use Rattle.refusal.specs.declared.Refusal.the-variants.{MoreBytes, PastLast}
+use Rattle.shelf.specs.declared.number.Next.the-variants as next
+use Rattle.shelf.specs.declared.reading.Ended.{Ended}
+use Rattle.shelf.specs.declared.reading.Ended.the-variants.{Whole, Refused}
+use Rattle.shelf.specs.declared.reading.Read.{Read}
+use Rattle.shelf.specs.Number.{Number, readNumber}
+use Rattle.shelf.specs.Reading.{Reading, stop, place, _thenRead_, readEntries, readList, roomAfterRead, endedPaper, IsRead}
+use Rattle.shelf.specs.Given.{IsNext}
+
+-- a refusal stops the reading
+refused-read : {A : Type 0} {p : Paper A} (why : Refusal) (next : A → Reading) → p ≡ onPaper why → (p thenRead next) ≡ stop (onPaper why)
+refused-read {A} why next e = rw (e, on-paper why .is A, on-paper why .is Unit)
+
+-- a reading that ends well went on
+pub record Went {A : Type 0} (p : Paper A) (next : A → Reading) : Type 0 where
+  pub got : A
+  pub is : p ≡ answer got
+  pub on : (p thenRead next) ≡ next got
+
+pub went-on : {A : Type 0} (p : Paper A) (next : A → Reading) → (p thenRead next) .ended ≡ answer tt → Went p next
+went-on (answer a) next e = record { got = a; is = refl; on = refl }
+went-on (refused n v) next e = let z : _≡_ {A = ℕ} 0 1 = cc in absurd (omega arith)
+
+-- what has passed a test
+pub passed-test : (n : ℕ) (test : Bool) {u : Unit} → (refuse n unless test) ≡ answer u → test ≡ true
+passed-test n true e = refl
+passed-test n false e = let z : _≡_ {A = ℕ} 0 1 = cc in absurd (omega arith)
+
+pub passed-room : (needed room : ℕ) {u : Unit} → roomFor needed room ≡ answer u → needed ≤ room
+passed-room needed room e = leb-true needed room (by (leb needed room) e)
+  where
+    by : (test : Bool) {u : Unit {0}} → cond test (answer tt) (refused 10 needed) ≡ answer u → test ≡ true
+    by true e = refl
+    by false e = let z : _≡_ {A = ℕ} 0 1 = cc in absurd (omega arith)
+
+-- ---- entries from a place on
+
+module _ (bytes : List ℕ) (least : ℕ) where
+  pub entries-over : (k : ℕ) → k ≡ 0 → 0 < length bytes → readEntries k least bytes ≡ stop (refused 14 0)
+  unfolding readEntries
+  entries-over k z h = rw (z, ne-eqb (length bytes) 0 (λ e. omega arith))
+
+  pub entries-whole : (k : ℕ) → k ≡ 0 → length bytes ≡ 0 → readEntries k least bytes ≡ stop (answer tt)
+  unfolding readEntries
+  entries-whole k z h = rw (z, h)
+
+  pub entries-refused : (k : ℕ) (why : Refusal) → 0 < k → readNumber bytes ≡ onPaper why → readEntries k least bytes ≡ stop (onPaper why)
+  unfolding readEntries
+  entries-refused zero why p e = absurd (omega arith)
+  entries-refused (suc k) why p e = refused-read why _ e
+
+  module _ (v : ℕ) (rest : List ℕ) (e : readNumber bytes ≡ answer (record { value = v; rest = rest })) where
+    pub entries-past : (k : ℕ) → 0 < k → isSheet (least + v) ≡ false → readEntries k least bytes ≡ stop (refused 13 0)
+    unfolding readEntries
+    entries-past zero p f = absurd (omega arith)
+    entries-past (suc k) p f = rw (e, f)
+
+    pub entries-place : (k : ℕ) → 0 < k → isSheet (least + v) ≡ true → readEntries k least bytes ≡ place (least + v) (readEntries (k - 1) (least + v + 1) rest)
+    unfolding readEntries
+    entries-place zero p f = absurd (omega arith)
+    entries-place (suc k) p f = rw (e, f, sub-one (suc k))
+
+-- ---- the count
+
+module _ (bytes : List ℕ) (room : ℕ) where
+  pub count-refused : (why : Refusal) → readNumber bytes ≡ onPaper why → readList bytes room ≡ stop (onPaper why)
+  unfolding readList
+  count-refused why e = refused-read why _ e
+
+  module _ (v : ℕ) (rest : List ℕ) (e : readNumber bytes ≡ answer (record { value = v; rest = rest })) where
+    pub count-over : 4_096 < v → readList bytes room ≡ stop (refused 12 0)
+    unfolding readList
+    count-over l = rw (e, lt-leb v 4_096 l)
+
+    pub count-room : v ≤ 4_096 → room < v → readList bytes room ≡ stop (refused 10 v)
+    unfolding readList
+    count-room few l = rw (e, le-leb v 4_096 few, lt-leb v room l)
+
+    pub count-read : v ≤ 4_096 → v ≤ room → readList bytes room ≡ readEntries v 0 rest
+    unfolding readList
+    count-read few l = rw (e, le-leb v 4_096 few, le-leb v room l)
+
+-- ---- what the reader owes
+
+abbrev pub Reads : Reading → List ℕ → List ℕ → Read → Type 0
+Reads reading old new r = IsRead reading r × (new ≡ roomAfterRead reading old)
+
+-- nothing placed
+pub reads-none : {reading : Reading} {ended : Paper Unit} {r : Read} (old : List ℕ) (e : Ended) → r ≡ record { ended = e; placed = 0 } → reading ≡ stop ended → endedPaper e ≡ ended → Reads reading old old r
+reads-none old e q h f = rw (q, h) (record { ended = f; placed = refl }, refl)
+
+-- a reading under way: i sheets are placed, and `later` is what is left to read
+pub record Placing (reading : Reading) (old : List ℕ) (i : ℕ) (new : List ℕ) (later : Reading) : Type 0 where
+  pub ended : reading .ended ≡ later .ended
+  pub count : length (reading .placed) ≡ i + length (later .placed)
+  pub same : length new ≡ length old
+  pub room : sets old 0 (reading .placed) ≡ sets new i (later .placed)
+
+pub placing-first : (reading : Reading) (old : List ℕ) → Placing reading old 0 old reading
+placing-first reading old = record { ended = refl; count = sym (zero-add _); same = refl; room = refl }
+
+module _ {reading : Reading} {old : List ℕ} {i : ℕ} {new : List ℕ} {later : Reading} (p : Placing reading old i new later) where
+  pub placing-next : (x : ℕ) (then : Reading) → later ≡ place x then → Placing reading old (i + 1) (set new i x) then
+  placing-next x then e = record {
+    ended = p .ended ∙ ap (λ (l : Reading). l .ended) e;
+    count = omega (arith, p .count, ap (λ (l : Reading). length (l .placed)) e);
+    same = length-set new i x ∙ p .same;
+    room = p .room ∙ ap (λ (l : Reading). sets new i (l .placed)) e ∙ rw (add-one i);
+  }
+
+  pub placing-done : {r : Read} (e : Ended) (ended : Paper Unit) → r ≡ record { ended = e; placed = i } → later ≡ stop ended → endedPaper e ≡ ended → i ≤ length old → Reads reading old new r
+  placing-done e ended q h f l =
+      let n : length (reading .placed) ≡ i = omega (arith, p .count, ap (λ (r : Reading). length (r .placed)) h) in
+      rw q (
+        record { ended = f ∙ sym (p .ended ∙ ap (λ (r : Reading). r .ended) h); placed = sym n },
+        sym (p .room ∙ ap (λ (r : Reading). sets new i (r .placed)) h) ∙ sets-eq (reading .placed) old 0 (omega arith) ∙ rw (zero-add (length (reading .placed))),
+      )
+
+-- the entries of a list: i of them are placed, and the next begins at `at`
+pub record Entering (bytes : List ℕ) (from count : ℕ) (room₀ room : List ℕ) (at least i : ℕ) : Type 0 where
+  pub upto : i ≤ count
+  pub enough : count ≤ length room₀
+  pub low : least ≤ 7_953_174
+  pub placing : Placing (readEntries count 0 (drop from bytes)) room₀ i room (readEntries (count - i) least (drop at bytes))
+
+pub entering-first : (bytes : List ℕ) (from count : ℕ) (room : List ℕ) → count ≤ length room → Entering bytes from count room room from 0 0
+entering-first bytes from count room h = record {
+  upto = omega arith;
+  enough = h;
+  low = omega arith;
+  placing = rw (sub-zero count) (placing-first (readEntries count 0 (drop from bytes)) room);
+}
+
+module _ {bytes : List ℕ} {from count : ℕ} {room₀ room : List ℕ} {at least i : ℕ} (n : Entering bytes from count room₀ room at least i) where
+  short : i ≤ length room₀
+  short = omega (arith, n .upto, n .enough)
+
+  -- the list ends with this answer
+  ends : {r : Read} (e : Ended) (ended : Paper Unit) → r ≡ record { ended = e; placed = i } → readEntries (count - i) least (drop at bytes) ≡ stop ended → endedPaper e ≡ ended → Reads (readEntries count 0 (drop from bytes)) room₀ room r
+  ends e ended q h f = placing-done (n .placing) e ended q h f short
+
+  pub ends-over : {r : Read} → r ≡ record { ended = Refused MoreBytes; placed = i } → count ≤ i → at < length bytes → Reads (readEntries count 0 (drop from bytes)) room₀ room r
+  ends-over q h l = ends (Refused MoreBytes) (refused 14 0) q (entries-over (drop at bytes) least (count - i) (omega arith) (omega (arith, length-drop at bytes))) refl
+
+  pub ends-whole : count ≤ i → length bytes ≤ at → Reads (readEntries count 0 (drop from bytes)) room₀ room (record { ended = Whole; placed = i })
+  ends-whole h l = ends Whole (answer tt) refl (entries-whole (drop at bytes) least (count - i) (omega arith) (omega (arith, length-drop at bytes))) refl
+
+  module _ (more : i < count) where
+    pub ends-refused : {r : Read} (why : Refusal) → r ≡ record { ended = Refused why; placed = i } → IsNext bytes at (next.Refused why) → Reads (readEntries count 0 (drop from bytes)) room₀ room r
+    ends-refused why q e = ends (Refused why) (onPaper why) q (entries-refused (drop at bytes) least (count - i) why (omega arith) e) refl
+
+    module _ (v end : ℕ) (e : IsNext bytes at (next.Number v end)) where
+      pub ends-past : {r : Read} → r ≡ record { ended = Refused PastLast; placed = i } → isSheet (least + v) ≡ false → Reads (readEntries count 0 (drop from bytes)) room₀ room r
+      ends-past q f = ends (Refused PastLast) (refused 13 0) q (entries-past (drop at bytes) least v (drop end bytes) (e .0) (count - i) (omega arith) f) refl
+
+      pub entering-next : isSheet (least + v) ≡ true → Entering bytes from count room₀ (set room i (least + v)) end (least + v + 1) (i + 1)
+      entering-next f =
+          let left : count - i - 1 ≡ count - (i + 1) = omega arith in
+          record {
+            upto = omega arith;
+            enough = n .enough;
+            low = omega (arith, leb-true (least + v) 7_953_173 f);
+            placing = placing-next (n .placing) (least + v) _ (rw left at (entries-place (drop at bytes) least v (drop end bytes) (e .0) (count - i) (omega arith) f));
+          }

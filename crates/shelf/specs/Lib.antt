@@ -1,0 +1,4 @@
+pub mod Number
+pub mod Writing
+pub mod Reading
+pub mod Given

@@ -1,0 +1,59 @@
+-- Reading a shelf list. Document 01, "Shelf list".
+use Prim.Native.Nat.{ℕ, zero, suc, _+_}
+use mathlib.Core.Path.{_≡_}
+use mathlib.Core.List.{List, [], _∷_, _++_}
+use lib.ListN.{length, drop}
+use Rattle.refusal.specs.Paper.{Paper, answer, refused, refuse_unless_, roomFor}
+use Rattle.refusal.specs.Numbers.{onPaper}
+use Rattle.division.specs.Words.{_≤?_, _=?_}
+use Rattle.division.specs.Sheet.{isSheet}
+use Rattle.shelf.specs.Number.{readNumber}
+use Rattle.shelf.specs.declared.reading.Ended.{Ended}
+use Rattle.shelf.specs.declared.reading.Ended.the-variants.{Whole, Refused}
+use Rattle.shelf.specs.declared.reading.Read.{Read}
+
+-- how reading ends, and the sheets that it has placed
+pub record Reading : Type 0 where
+  pub ended : Paper Unit
+  pub placed : List ℕ
+
+abbrev pub stop : Paper Unit → Reading
+stop ended = record { ended = ended; placed = [] }
+
+abbrev pub place : ℕ → Reading → Reading
+place sheet later = record { ended = later .ended; placed = sheet ∷ later .placed }
+
+-- a refusal stops the reading; else it goes on
+infixr 1 _thenRead_
+abbrev pub _thenRead_ : {A : Type 0} → Paper A → (A → Reading) → Reading
+answer a thenRead next = next a
+refused number value thenRead next = stop (refused number value)
+
+-- "Each entry then gives 11, 12, 13 or a sheet. After the last entry, more bytes give 14"
+unfoldable pub readEntries : ℕ → ℕ → List ℕ → Reading
+readEntries zero least bytes = stop (refuse 14 unless length bytes =? 0)
+readEntries (suc more) least bytes =
+    readNumber bytes thenRead λ gap.
+    (refuse 13 unless isSheet (least + gap .value)) thenRead λ fine.
+    place (least + gap .value) (readEntries more (least + gap .value + 1) (gap .rest))
+
+-- "a count over 4 096 gives 12, and a count above the lent room gives 10"
+unfoldable pub readList : List ℕ → ℕ → Reading
+readList bytes room =
+    readNumber bytes thenRead λ count.
+    (refuse 12 unless count .value ≤? 4_096) thenRead λ fine.
+    roomFor (count .value) room thenRead λ fine.
+    readEntries (count .value) 0 (count .rest)
+
+-- "all places beyond them keep their values"
+abbrev pub roomAfterRead : Reading → List ℕ → List ℕ
+roomAfterRead reading room = reading .placed ++ drop (length (reading .placed)) room
+
+-- the reader's answer on paper: "always carries how many sheets it placed"
+abbrev pub endedPaper : Ended → Paper Unit
+endedPaper Whole = answer tt
+endedPaper (Refused why) = onPaper why
+
+pub record IsRead (reading : Reading) (answer : Read) : Type 0 where
+  pub ended : endedPaper (answer .ended) ≡ reading .ended
+  pub placed : answer .placed ≡ length (reading .placed)
