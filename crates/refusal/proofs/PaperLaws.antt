@@ -5,6 +5,7 @@ use mathlib.Core.List.{[], _∷_}
 use Prim.Native.Nat.{ℕ, _-_}
 use native.Mathlib.Omega.{arith}
 use borrow.Author.Tests.{not-true, not-false}
+use lib.Dec.{eqb}
 use lib.ListN.{getD}
 use Rattle.refusal.specs.declared.Refusal.{Refusal}
 use Rattle.refusal.specs.declared.Refusal.the-variants.{PointOutside, NoScale, NoSheet, LabelForm, FieldRange, NoSuch, WindowOrder, WindowOutside, TooMany, Room, EndsEarly, BadNumber, PastLast, MoreBytes, NotRising, NameForm, NameScale}
@@ -67,30 +68,31 @@ no-answer A why = as-read (onPaper why) ∙ read-refusal (λ (x : A). true) (λ 
     as-read (answer x) = refl
     as-read (refused n v) = refl
 
--- a refusal has one number and one value, whatever was asked
+-- a refusal has one number, which is not 0, and one value, whatever was asked
 pub record OnPaper (why : Refusal) : Type 1 where
   pub number : ℕ
+  pub some : eqb number 0 ≡ false
   pub value : ℕ
   pub is : (A : Type 0) → onPaper {A = A} why ≡ refused number value
 
 pub on-paper : (why : Refusal) → OnPaper why
-on-paper PointOutside = record { number = 1; value = 0; is = λ A. refl }
-on-paper NoScale = record { number = 2; value = 0; is = λ A. refl }
-on-paper NoSheet = record { number = 3; value = 0; is = λ A. refl }
-on-paper LabelForm = record { number = 4; value = 0; is = λ A. refl }
-on-paper FieldRange = record { number = 5; value = 0; is = λ A. refl }
-on-paper NoSuch = record { number = 6; value = 0; is = λ A. refl }
-on-paper WindowOrder = record { number = 7; value = 0; is = λ A. refl }
-on-paper WindowOutside = record { number = 8; value = 0; is = λ A. refl }
-on-paper TooMany = record { number = 9; value = 0; is = λ A. refl }
-on-paper (Room needed) = record { number = 10; value = needed; is = λ A. refl }
-on-paper EndsEarly = record { number = 11; value = 0; is = λ A. refl }
-on-paper BadNumber = record { number = 12; value = 0; is = λ A. refl }
-on-paper PastLast = record { number = 13; value = 0; is = λ A. refl }
-on-paper MoreBytes = record { number = 14; value = 0; is = λ A. refl }
-on-paper NotRising = record { number = 15; value = 0; is = λ A. refl }
-on-paper NameForm = record { number = 16; value = 0; is = λ A. refl }
-on-paper NameScale = record { number = 17; value = 0; is = λ A. refl }
+on-paper PointOutside = record { number = 1; some = refl; value = 0; is = λ A. refl }
+on-paper NoScale = record { number = 2; some = refl; value = 0; is = λ A. refl }
+on-paper NoSheet = record { number = 3; some = refl; value = 0; is = λ A. refl }
+on-paper LabelForm = record { number = 4; some = refl; value = 0; is = λ A. refl }
+on-paper FieldRange = record { number = 5; some = refl; value = 0; is = λ A. refl }
+on-paper NoSuch = record { number = 6; some = refl; value = 0; is = λ A. refl }
+on-paper WindowOrder = record { number = 7; some = refl; value = 0; is = λ A. refl }
+on-paper WindowOutside = record { number = 8; some = refl; value = 0; is = λ A. refl }
+on-paper TooMany = record { number = 9; some = refl; value = 0; is = λ A. refl }
+on-paper (Room needed) = record { number = 10; some = refl; value = needed; is = λ A. refl }
+on-paper EndsEarly = record { number = 11; some = refl; value = 0; is = λ A. refl }
+on-paper BadNumber = record { number = 12; some = refl; value = 0; is = λ A. refl }
+on-paper PastLast = record { number = 13; some = refl; value = 0; is = λ A. refl }
+on-paper MoreBytes = record { number = 14; some = refl; value = 0; is = λ A. refl }
+on-paper NotRising = record { number = 15; some = refl; value = 0; is = λ A. refl }
+on-paper NameForm = record { number = 16; some = refl; value = 0; is = λ A. refl }
+on-paper NameScale = record { number = 17; some = refl; value = 0; is = λ A. refl }
 
 -- a kind of answer that the paper gives back
 pub record Told {A X : Type 0} (paper : A → Paper X) : Type 0 where

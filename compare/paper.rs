@@ -1,0 +1,785 @@
+// Document 01 in plain Rust, written from its text alone, to compare the library with. It goes its own way where it can: the whole
+// division is laid out once, sheet after sheet, in the order in which the document numbers them, and questions are answered by
+// looking there. No sheet number is worked out by a formula, a point finds its sheet by a search of the edges, and a label is
+// read by looking for the sheet whose label is spelt so.
+
+use std::ops::Range;
+
+/// A refusal: its number in the table "Numbers of refusal", and the value that it carries (10: the room needed; others: 0).
+#[derive(Clone, Copy, Debug, PartialEq, Eq)]
+pub struct Refusal {
+    pub number: u32,
+    pub value: u64,
+}
+
+pub type Answer<T> = Result<T, Refusal>;
+
+fn refuse<T>(number: u32) -> Answer<T> {
+    Err(Refusal { number, value: 0 })
+}
+
+pub fn too_short<T>(needed: usize) -> Answer<T> {
+    Err(Refusal { number: 10, value: needed as u64 })
+}
+
+// ---- "The grid": the area and the table of scales ----
+
+pub const AREA_WEST: i64 = 200_000_000;
+pub const AREA_EAST: i64 = 800_000_000;
+pub const AREA_SOUTH: i64 = 4_570_000_000;
+pub const AREA_NORTH: i64 = 5_170_000_000;
+pub const MOST: usize = 4096;
+pub const LAST_SHEET: u32 = 7_953_173;
+
+/// What a scale's sheets are made from.
+#[derive(Clone, Copy, Debug, PartialEq, Eq)]
+pub enum Made {
+    /// The area, in so many rows and columns.
+    Area(u32, u32),
+    /// Each sheet of the scale of this number, in so many rows of as many.
+    Scale(u32, u32),
+}
+
+/// A row of the table, with the first field and the count of fields of the scale's labels.
+#[derive(Clone, Copy, Debug)]
+pub struct Scale {
+    pub width: i64,
+    pub height: i64,
+    pub made: Made,
+    pub sheets: u32,
+    pub first: u32,
+    pub mark: &'static str,
+    pub fields: usize,
+}
+
+const fn row(width: i64, height: i64, made: Made, sheets: u32, first: u32, mark: &'static str, fields: usize) -> Scale {
+    Scale { width, height, made, sheets, first, mark, fields }
+}
+
+pub const SCALES: [Scale; 9] = [
+    row(150_000, 100_000, Made::Area(6, 4), 24, 0, "250", 3),
+    row(60_000, 40_000, Made::Area(15, 10), 150, 24, "100", 3),
+    row(30_000, 20_000, Made::Area(30, 20), 600, 174, "50", 3),
+    row(15_000, 10_000, Made::Scale(3, 2), 2_400, 774, "25", 4),
+    row(6_000, 4_000, Made::Scale(3, 5), 15_000, 3_174, "10", 4),
+    row(3_000, 2_000, Made::Scale(4, 5), 60_000, 18_174, "5", 5),
+    row(1_200, 800, Made::Scale(3, 25), 375_000, 78_174, "2", 4),
+    row(600, 400, Made::Scale(7, 2), 1_500_000, 453_174, "1", 5),
+    row(300, 200, Made::Scale(8, 2), 6_000_000, 1_953_174, "5", 6),
+];
+
+/// The row of a scale, or refusal 2.
+pub fn scale_facts(scale: u32) -> Answer<&'static Scale> {
+    match scale {
+        1..=9 => Ok(&SCALES[scale as usize - 1]),
+        _ => refuse(2),
+    }
+}
+
+/// The last sheet number of a scale.
+pub fn last_of(scale: u32) -> Answer<u32> {
+    scale_facts(scale).map(|facts| facts.first + facts.sheets - 1)
+}
+
+/// The scale that a sheet number belongs to, or refusal 3.
+pub fn scale_of(sheet: u32) -> Answer<u32> {
+    match (1..=9).rev().find(|&scale| SCALES[scale as usize - 1].first <= sheet) {
+        Some(scale) if sheet <= LAST_SHEET => Ok(scale),
+        _ => refuse(3),
+    }
+}
+
+// ---- The division laid out ----
+
+/// A sheet as it is laid out: its place on the whole grid of its scale, counted from 0 from the upper left, what it is a part of,
+/// and its number there. Sheets made from the area have neither.
+#[derive(Clone, Copy, Debug)]
+struct Laid {
+    row: u16,
+    column: u16,
+    parent: u32,
+    number: u16,
+}
+
+const NO_PARENT: u32 = u32::MAX;
+const FREE: u32 = u32::MAX;
+const SLOTS: usize = 1 << 24;
+
+/// A scale's grid: the edges of its columns from the west and of its rows from the north, in millimetres, each with the last one's
+/// far edge, and the sheet at every place, row by row.
+struct Grid {
+    west_to_east: Vec<i64>,
+    north_to_south: Vec<i64>,
+    at: Vec<u32>,
+}
+
+impl Grid {
+    fn columns(&self) -> usize {
+        self.west_to_east.len() - 1
+    }
+    fn rows(&self) -> usize {
+        self.north_to_south.len() - 1
+    }
+}
+
+pub struct Division {
+    sheets: Vec<Laid>,
+    grids: Vec<Grid>,
+    /// Every sheet, in a slot that its spelt label leads to.
+    slots: Vec<u32>,
+}
+
+/// A sheet's frame, in millimetres.
+#[derive(Clone, Copy, Debug, PartialEq, Eq)]
+pub struct Frame {
+    pub west: i64,
+    pub east: i64,
+    pub south: i64,
+    pub north: i64,
+}
+
+/// A sheet's scale and its place on the whole grid of the scale, counted from 0.
+#[derive(Clone, Copy, Debug, PartialEq, Eq)]
+pub struct Place {
+    pub scale: u32,
+    pub row: u32,
+    pub column: u32,
+}
+
+/// A label as it is spelt, with zeros behind it.
+#[derive(Clone, Copy, PartialEq, Eq)]
+pub struct Label {
+    bytes: [u8; 16],
+    length: usize,
+}
+
+impl Label {
+    pub fn text(&self) -> &[u8] {
+        &self.bytes[..self.length]
+    }
+    fn put(&mut self, text: &[u8]) {
+        self.bytes[self.length..self.length + text.len()].copy_from_slice(text);
+        self.length += text.len();
+    }
+    /// A hyphen and a number.
+    fn put_field(&mut self, number: u32) {
+        let mut digits = [0; 10];
+        let mut from = digits.len();
+        let mut rest = number;
+        loop {
+            from -= 1;
+            digits[from] = b'0' + (rest % 10) as u8;
+            rest /= 10;
+            if rest == 0 {
+                break;
+            }
+        }
+        self.put(b"-");
+        self.put(&digits[from..]);
+    }
+}
+
+fn slot_of(bytes: &[u8; 16]) -> usize {
+    let text = u128::from_le_bytes(*bytes);
+    let mixed = (text as u64 ^ ((text >> 64) as u64).rotate_left(29)).wrapping_mul(0x9E37_79B9_7F4A_7C15);
+    let mixed = (mixed ^ (mixed >> 31)).wrapping_mul(0xD6E8_FEB8_6659_FD93);
+    (mixed >> 40) as usize
+}
+
+impl Division {
+    /// Lays out all sheets of all scales. "Within a parent, sheets are numbered from 1, row by row from the upper left"; parents
+    /// follow one another by their own numbers, scales by the table.
+    pub fn lay_out() -> Division {
+        let mut sheets: Vec<Laid> = Vec::with_capacity(LAST_SHEET as usize + 1);
+        let mut grids: Vec<Grid> = Vec::new();
+        for scale in &SCALES {
+            assert_eq!(sheets.len(), scale.first as usize);
+            let (width, height) = (scale.width * 1000, scale.height * 1000);
+            let west_to_east = (0..).map(|k| AREA_WEST + k * width).take_while(|&e| e <= AREA_EAST).collect();
+            let north_to_south = (0..).map(|k| AREA_NORTH - k * height).take_while(|&n| n >= AREA_SOUTH).collect();
+            let mut grid = Grid { west_to_east, north_to_south, at: Vec::new() };
+            assert_eq!(grid.west_to_east.last(), Some(&AREA_EAST));
+            assert_eq!(grid.north_to_south.last(), Some(&AREA_SOUTH));
+            grid.at = vec![FREE; grid.rows() * grid.columns()];
+            let columns = grid.columns();
+            let mut lay = |laid: Laid, sheets: &mut Vec<Laid>| {
+                let place = &mut grid.at[laid.row as usize * columns + laid.column as usize];
+                assert_eq!(*place, FREE);
+                *place = sheets.len() as u32;
+                sheets.push(laid);
+            };
+            match scale.made {
+                Made::Area(rows, columns) => {
+                    for row in 0..rows as u16 {
+                        for column in 0..columns as u16 {
+                            lay(Laid { row, column, parent: NO_PARENT, number: 0 }, &mut sheets);
+                        }
+                    }
+                }
+                Made::Scale(parents, side) => {
+                    let first = SCALES[parents as usize - 1].first;
+                    for parent in first..first + SCALES[parents as usize - 1].sheets {
+                        let whole = sheets[parent as usize];
+                        let mut number = 0;
+                        for down in 0..side as u16 {
+                            for right in 0..side as u16 {
+                                number += 1;
+                                let row = whole.row * side as u16 + down;
+                                let column = whole.column * side as u16 + right;
+                                lay(Laid { row, column, parent, number }, &mut sheets);
+                            }
+                        }
+                    }
+                }
+            }
+            assert!(grid.at.iter().all(|&sheet| sheet != FREE));
+            assert_eq!(grid.at.len(), scale.sheets as usize);
+            grids.push(grid);
+        }
+        assert_eq!(sheets.len(), LAST_SHEET as usize + 1);
+        let mut division = Division { sheets, grids, slots: vec![FREE; SLOTS] };
+        for sheet in 0..=LAST_SHEET {
+            let mut slot = slot_of(&division.spell(sheet).bytes);
+            while division.slots[slot] != FREE {
+                slot = (slot + 1) % SLOTS;
+            }
+            division.slots[slot] = sheet;
+        }
+        division
+    }
+
+    fn laid(&self, sheet: u32) -> Answer<&Laid> {
+        match self.sheets.get(sheet as usize) {
+            Some(laid) => Ok(laid),
+            None => refuse(3),
+        }
+    }
+
+    fn grid(&self, scale: u32) -> &Grid {
+        &self.grids[scale as usize - 1]
+    }
+
+    // ---- "The grid": places, points, corners ----
+
+    /// The scale and place of a sheet, or 3.
+    pub fn place(&self, sheet: u32) -> Answer<Place> {
+        let laid = self.laid(sheet)?;
+        Ok(Place { scale: scale_of(sheet)?, row: laid.row as u32, column: laid.column as u32 })
+    }
+
+    /// The rows and columns of a scale's whole grid.
+    pub fn grid_size(&self, scale: u32) -> (u64, u64) {
+        (self.grid(scale).rows() as u64, self.grid(scale).columns() as u64)
+    }
+
+    /// The sheet in a row and column of a scale, counted from 0: 2, 6.
+    pub fn sheet_on(&self, scale: u32, row: i128, column: i128) -> Answer<u32> {
+        scale_facts(scale)?;
+        let grid = self.grid(scale);
+        if (0..grid.rows() as i128).contains(&row) && (0..grid.columns() as i128).contains(&column) {
+            Ok(grid.at[row as usize * grid.columns() + column as usize])
+        } else {
+            refuse(6)
+        }
+    }
+
+    /// The sheet of a scale that a point lies in: 2, 1. A sheet owns its west and north edge, and so does the area.
+    pub fn sheet_of_point(&self, scale: u32, e: i64, n: i64) -> Answer<u32> {
+        scale_facts(scale)?;
+        let grid = self.grid(scale);
+        // The last column whose west edge is not east of the point, and the last row whose north edge is not south of it.
+        let column = grid.west_to_east.partition_point(|&west| west <= e);
+        let row = grid.north_to_south.partition_point(|&north| north >= n);
+        if column == 0 || column > grid.columns() || row == 0 || row > grid.rows() {
+            return refuse(1);
+        }
+        Ok(grid.at[(row - 1) * grid.columns() + column - 1])
+    }
+
+    /// The corners of a sheet, or 3.
+    pub fn frame(&self, sheet: u32) -> Answer<Frame> {
+        let laid = self.laid(sheet)?;
+        let grid = self.grid(scale_of(sheet)?);
+        let (row, column) = (laid.row as usize, laid.column as usize);
+        Ok(Frame {
+            west: grid.west_to_east[column],
+            east: grid.west_to_east[column + 1],
+            south: grid.north_to_south[row + 1],
+            north: grid.north_to_south[row],
+        })
+    }
+
+    // ---- "Relations" ----
+
+    /// The sheet that a sheet is a part of: 3, 6.
+    pub fn parent(&self, sheet: u32) -> Answer<u32> {
+        match self.laid(sheet)?.parent {
+            NO_PARENT => refuse(6),
+            parent => Ok(parent),
+        }
+    }
+
+    /// The number of a sheet that there is within its parent; 0 where it has none.
+    pub fn number(&self, sheet: u32) -> u32 {
+        self.sheets[sheet as usize].number as u32
+    }
+
+    /// The part of a sheet with this number at this scale: 3, 2, 6. It is looked for among all sheets of the scale, which lie by
+    /// their parents and numbers.
+    pub fn child(&self, sheet: u32, scale: u32, number: u32) -> Answer<u32> {
+        self.laid(sheet)?;
+        let facts = scale_facts(scale)?;
+        let all = &self.sheets[facts.first as usize..(facts.first + facts.sheets) as usize];
+        let asked = (sheet, number);
+        let found = all.partition_point(|laid| (laid.parent, laid.number as u32) < asked);
+        match all.get(found) {
+            Some(laid) if (laid.parent, laid.number as u32) == asked => Ok(facts.first + found as u32),
+            _ => refuse(6),
+        }
+    }
+
+    /// The sheet so many columns east and rows south: 3, 6.
+    pub fn step(&self, sheet: u32, east: i64, south: i64) -> Answer<u32> {
+        let place = self.place(sheet)?;
+        self.sheet_on(place.scale, place.row as i128 + south as i128, place.column as i128 + east as i128)
+    }
+
+    /// The pair, east then south, whose step leads from one sheet to the other: 3 for the first, 3 for the second, 6.
+    pub fn offset(&self, from: u32, to: u32) -> Answer<(i64, i64)> {
+        let (from, to) = (self.place(from)?, self.place(to)?);
+        if from.scale != to.scale {
+            return refuse(6);
+        }
+        Ok((to.column as i64 - from.column as i64, to.row as i64 - from.row as i64))
+    }
+
+    /// The block of three rows of three round a sheet, itself in the middle. Each place is found by the point that lies in it as
+    /// the sheet's middle lies in the sheet.
+    pub fn neighbours(&self, sheet: u32) -> [[Option<u32>; 3]; 3] {
+        let mut block = [[None; 3]; 3];
+        if let (Ok(scale), Ok(frame)) = (scale_of(sheet), self.frame(sheet)) {
+            let (width, height) = (frame.east - frame.west, frame.north - frame.south);
+            for (down, row) in block.iter_mut().enumerate() {
+                for (right, place) in row.iter_mut().enumerate() {
+                    let e = frame.west + width / 2 + (right as i64 - 1) * width;
+                    let n = frame.south + height / 2 - (down as i64 - 1) * height;
+                    *place = self.sheet_of_point(scale, e, n).ok();
+                }
+            }
+        }
+        block
+    }
+
+    /// The cover of a window with lent room for so many sheets: 2, 7, 8, 9, 10. A window's points are west <= E < east and
+    /// south < N <= north, a sheet's likewise, so two share a point where their sides overlap by more than an edge.
+    pub fn cover(&self, scale: u32, window: Frame, room: usize) -> Answer<Vec<u32>> {
+        scale_facts(scale)?;
+        if window.east <= window.west || window.north <= window.south {
+            return refuse(7);
+        }
+        if window.west < AREA_WEST || window.east > AREA_EAST || window.south < AREA_SOUTH || window.north > AREA_NORTH {
+            return refuse(8);
+        }
+        let grid = self.grid(scale);
+        let shared = |edges: &[i64], low: i64, high: i64| -> Vec<usize> {
+            let side = |k: &usize| (edges[*k].min(edges[*k + 1]), edges[*k].max(edges[*k + 1]));
+            (0..edges.len() - 1).filter(|k| side(k).0 < high && low < side(k).1).collect()
+        };
+        let columns = shared(&grid.west_to_east, window.west, window.east);
+        let rows = shared(&grid.north_to_south, window.south, window.north);
+        let count = rows.len() * columns.len();
+        if count > MOST {
+            return refuse(9);
+        }
+        if count > room {
+            return too_short(count);
+        }
+        let place = |row: &usize, column: &usize| grid.at[row * grid.columns() + column];
+        Ok(rows.iter().flat_map(|row| columns.iter().map(move |column| place(row, column))).collect())
+    }
+
+    // ---- "Labels" ----
+
+    /// The label of a sheet that there is: the scale's mark, the number in each parent up to a sheet that is made from the area,
+    /// and that one's row and column, rows counted from 101 and columns from 1.
+    fn spell(&self, sheet: u32) -> Label {
+        let mut label = Label { bytes: [0; 16], length: 0 };
+        let scale = scale_of(sheet).expect("a sheet");
+        label.put(SCALES[scale as usize - 1].mark.as_bytes());
+        let mut at = self.sheets[sheet as usize];
+        while at.parent != NO_PARENT {
+            label.put_field(at.number as u32);
+            at = self.sheets[at.parent as usize];
+        }
+        label.put_field(101 + at.row as u32);
+        label.put_field(1 + at.column as u32);
+        label
+    }
+
+    /// The label of a sheet with lent room for so many bytes: 3, 10.
+    pub fn write_label(&self, sheet: u32, room: usize) -> Answer<Label> {
+        self.laid(sheet)?;
+        let label = self.spell(sheet);
+        if label.length > room {
+            return too_short(label.length);
+        }
+        Ok(label)
+    }
+
+    /// The bytes of a sheet's label: 3.
+    pub fn label_length(&self, sheet: u32) -> Answer<u32> {
+        self.laid(sheet)?;
+        Ok(self.spell(sheet).length as u32)
+    }
+
+    /// The sheet of a label: 4 where its form is none, else 5 where no sheet's label is spelt so.
+    pub fn read_label(&self, text: &[u8]) -> Answer<u32> {
+        if !well_formed(text) {
+            return refuse(4);
+        }
+        let mut bytes = [0; 16];
+        bytes[..text.len()].copy_from_slice(text);
+        let mut slot = slot_of(&bytes);
+        while self.slots[slot] != FREE {
+            if self.spell(self.slots[slot]).bytes == bytes {
+                return Ok(self.slots[slot]);
+            }
+            slot = (slot + 1) % SLOTS;
+        }
+        refuse(5)
+    }
+
+    // ---- "Catalogue lines" ----
+
+    /// The sheet of a line and the places of its label and name in it: 4, 5, 17, 16.
+    pub fn read_line(&self, line: &[u8]) -> Line {
+        let parts = self.split_line(line);
+        match parts {
+            Ok((sheet, label, name)) => Line { sheet: Ok(sheet), label, name },
+            Err(refusal) => Line { sheet: Err(refusal), label: 0..0, name: 0..0 },
+        }
+    }
+
+    fn split_line(&self, line: &[u8]) -> Answer<(u32, Range<usize>, Range<usize>)> {
+        let Some(space) = line.iter().position(|&byte| byte == b' ') else {
+            return Ok((self.read_label(line)?, 0..line.len(), line.len()..line.len()));
+        };
+        let sheet = self.read_label(&line[..space])?;
+        if scale_of(sheet)? > 6 {
+            return refuse(17);
+        }
+        let name = &line[space + 1..];
+        let fine = (1..=48).contains(&name.len())
+            && name.iter().all(|&byte| byte >= 32 && byte != 127)
+            && !name.starts_with(b" ")
+            && !name.ends_with(b" ");
+        if !fine {
+            return refuse(16);
+        }
+        Ok((sheet, 0..space, space + 1..line.len()))
+    }
+
+    /// The caption of a line: a part of the line or of the fallback.
+    pub fn caption(&self, line: &[u8], fallback: &[u8]) -> Caption {
+        let read = self.read_line(line);
+        match read.sheet {
+            Err(_) => Caption::OfLine(0..0),
+            Ok(_) if read.name.is_empty() => Caption::OfFallback(0..fallback.len()),
+            Ok(_) => Caption::OfLine(read.name),
+        }
+    }
+
+    // ---- "Shelf list" ----
+
+    /// The bytes of a list of these sheets: 9, then at the first faulty place 3 before 15.
+    pub fn list_length(&self, sheets: &[u32]) -> Answer<usize> {
+        self.spell_list(sheets).map(|list| list.len())
+    }
+
+    /// The list of these sheets with lent room for so many bytes: 9, 3 or 15, 10.
+    pub fn write_list(&self, sheets: &[u32], room: usize) -> Answer<Vec<u8>> {
+        let list = self.spell_list(sheets)?;
+        if list.len() > room {
+            return too_short(list.len());
+        }
+        Ok(list)
+    }
+
+    fn spell_list(&self, sheets: &[u32]) -> Answer<Vec<u8>> {
+        if sheets.len() > MOST {
+            return refuse(9);
+        }
+        let mut list = Vec::new();
+        put_number(&mut list, sheets.len() as u32);
+        let mut least = 0;
+        for &sheet in sheets {
+            if sheet > LAST_SHEET {
+                return refuse(3);
+            }
+            if sheet < least {
+                return refuse(15);
+            }
+            put_number(&mut list, sheet - least);
+            least = sheet + 1;
+        }
+        Ok(list)
+    }
+
+    /// The sheets of a list, as far as lent room for so many has taken them, and the refusal if any: 11, 12 of the count, 10, then
+    /// 11, 12, 13 of each entry, then 14.
+    pub fn read_list(&self, list: &[u8], room: usize) -> (Vec<u32>, Answer<()>) {
+        let mut placed = Vec::new();
+        let answer = place_list(list, room, &mut placed);
+        (placed, answer)
+    }
+}
+
+/// The form of a label: 1 to 16 bytes, only digits and hyphens, no empty field, no leading zero, and a known first number with its
+/// count of fields. No field is turned into a number.
+fn well_formed(text: &[u8]) -> bool {
+    if text.is_empty() || text.len() > 16 || text.iter().any(|byte| !b"0123456789-".contains(byte)) {
+        return false;
+    }
+    let mut count = 0;
+    let mut first: &[u8] = &[];
+    for field in text.split(|&byte| byte == b'-') {
+        if field.is_empty() || field.len() > 1 && field[0] == b'0' {
+            return false;
+        }
+        if count == 0 {
+            first = field;
+        }
+        count += 1;
+    }
+    SCALES.iter().any(|scale| scale.mark.as_bytes() == first && scale.fields == count)
+}
+
+/// A line as it is read. A name that is absent is the empty part at the line's end; of a refused line both are the empty part at
+/// its start.
+#[derive(Clone, Debug, PartialEq, Eq)]
+pub struct Line {
+    pub sheet: Answer<u32>,
+    pub label: Range<usize>,
+    pub name: Range<usize>,
+}
+
+#[derive(Clone, Debug, PartialEq, Eq)]
+pub enum Caption {
+    OfLine(Range<usize>),
+    OfFallback(Range<usize>),
+}
+
+/// "Two names are the same when their bytes are the same."
+pub fn same_name(one: &[u8], other: &[u8]) -> bool {
+    one == other
+}
+
+/// A number in groups of seven bits, low group first, the high bit set on all but the last.
+fn put_number(list: &mut Vec<u8>, number: u32) {
+    let mut rest = number;
+    while rest > 127 {
+        list.push((rest & 127) as u8 | 128);
+        rest >>= 7;
+    }
+    list.push(rest as u8);
+}
+
+/// The number at the start of some bytes, and the bytes behind it: 12 for four bytes with the high bit set, 11 where the bytes end
+/// before a last group, 12 where the last group is zero after another.
+fn take_number(bytes: &[u8]) -> Answer<(u32, &[u8])> {
+    let near = &bytes[..bytes.len().min(4)];
+    let Some(last) = near.iter().position(|&byte| byte < 128) else {
+        return refuse(if near.len() == 4 { 12 } else { 11 });
+    };
+    if last > 0 && near[last] == 0 {
+        return refuse(12);
+    }
+    let number = near[..=last].iter().rev().fold(0, |high, &byte| high * 128 + (byte % 128) as u32);
+    Ok((number, &bytes[last + 1..]))
+}
+
+fn place_list(list: &[u8], room: usize, placed: &mut Vec<u32>) -> Answer<()> {
+    let (count, mut rest) = take_number(list)?;
+    if count as usize > MOST {
+        return refuse(12);
+    }
+    if count as usize > room {
+        return too_short(count as usize);
+    }
+    let mut least = 0;
+    for _ in 0..count {
+        let (number, behind) = take_number(rest)?;
+        if least + number > LAST_SHEET {
+            return refuse(13);
+        }
+        placed.push(least + number);
+        least += number + 1;
+        rest = behind;
+    }
+    if rest.is_empty() {
+        Ok(())
+    } else {
+        refuse(14)
+    }
+}
+
+// ---- "Table of examples" and "Slips that look right", with readings of open points ----
+
+#[cfg(test)]
+mod tests {
+    use super::*;
+    use std::sync::OnceLock;
+
+    fn division() -> &'static Division {
+        static DIVISION: OnceLock<Division> = OnceLock::new();
+        DIVISION.get_or_init(Division::lay_out)
+    }
+
+    fn label_of(sheet: u32) -> String {
+        String::from_utf8(division().write_label(sheet, 16).expect("a sheet").text().to_vec()).expect("text")
+    }
+
+    fn read(label: &str) -> Answer<u32> {
+        division().read_label(label.as_bytes())
+    }
+
+    #[test]
+    fn nine_labels() {
+        let cases = [
+            ("250-102-3", 6),
+            ("100-105-6", 69),
+            ("50-109-11", 344),
+            ("25-3-109-11", 1456),
+            ("10-11-109-11", 7434),
+            ("5-1-3-109-11", 35224),
+            ("2-301-109-11", 184724),
+            ("1-3-301-109-11", 879376),
+            ("5-1-3-301-109-11", 3657982),
+        ];
+        for (scale, (label, sheet)) in (1..).zip(cases) {
+            assert_eq!(division().sheet_of_point(scale, 500_000_000, 5_000_000_000), Ok(sheet));
+            assert_eq!(read(label), Ok(sheet));
+            assert_eq!(label_of(sheet), label);
+            assert_eq!(scale_of(sheet), Ok(scale));
+        }
+    }
+
+    #[test]
+    fn points_at_edges() {
+        let at = |scale, e, n| division().sheet_of_point(scale, e, n);
+        let place = |e, n| division().place(at(3, e, n).expect("a sheet")).expect("a place");
+        assert_eq!(place(229_999_999, 5_000_000_000).column + 1, 1);
+        assert_eq!(place(230_000_000, 5_000_000_000).column + 1, 2);
+        assert_eq!(place(500_000_000, 5_150_000_000).row + 101, 102);
+        assert_eq!(place(500_000_000, 5_150_000_001).row + 101, 101);
+        for scale in 1..=9 {
+            assert!(at(scale, 200_000_000, 5_000_000_000).is_ok());
+            assert_eq!(at(scale, 199_999_999, 5_000_000_000), refuse(1));
+            assert_eq!(at(scale, 800_000_000, 5_000_000_000), refuse(1));
+            assert!(at(scale, 799_999_999, 5_000_000_000).is_ok());
+            assert!(at(scale, 500_000_000, 5_170_000_000).is_ok());
+            assert_eq!(at(scale, 500_000_000, 5_170_000_001), refuse(1));
+            assert_eq!(at(scale, 500_000_000, 4_570_000_000), refuse(1));
+            assert!(at(scale, 500_000_000, 4_570_000_001).is_ok());
+        }
+        assert_eq!(at(0, i64::MIN, i64::MAX), refuse(2));
+        assert_eq!(at(10, 0, 0), refuse(2));
+        assert_eq!(at(9, i64::MIN, i64::MAX), refuse(1));
+    }
+
+    #[test]
+    fn last_sheet() {
+        assert_eq!(read("5-4-4-625-130-20"), Ok(LAST_SHEET));
+        let frame = division().frame(LAST_SHEET).expect("a frame");
+        assert_eq!((frame.west, frame.south), (799_700_000, 4_570_000_000));
+        assert_eq!(division().frame(LAST_SHEET + 1), refuse(3));
+        assert_eq!(division().frame(3_657_982).map(|frame| frame.east), Ok(500_300_000));
+        assert_eq!(division().frame(3_657_982).map(|frame| frame.south), Ok(4_999_800_000));
+    }
+
+    #[test]
+    fn labels_refused() {
+        for label in ["50-101-0", "50-131-1", "50-0-0", "50-357-1", "50-65637-1", "50-4294967397-1", "2-626-101-1", "100-116-1"] {
+            assert_eq!(read(label), refuse(5), "{label}");
+        }
+        let badly = [
+            "50-0101-1", "50-101-", "", "0,5-1-3-301-109-11", "306-101-1", "65586-101-1", "4294967346-101-1", "1-1-1-1-1-1-1-1",
+            "1-1-101-1", "5-1-1-1-1-101-1", "0", "0-101-1", "5-1-3-301-109-011", "50-101-1 ",
+        ];
+        for label in badly {
+            assert_eq!(read(label), refuse(4), "{label}");
+        }
+        assert_eq!(scale_of(read("5-1-1-101-1").expect("a sheet")), Ok(6));
+        assert_eq!(scale_of(read("5-1-1-101-101-1").expect("a sheet")), Ok(9));
+    }
+
+    #[test]
+    fn lists() {
+        let list = [0x03, 0x00, 0xD7, 0x02, 0xBC, 0xB3, 0xE5, 0x03];
+        let sheets = [0, 344, LAST_SHEET];
+        assert_eq!(division().write_list(&sheets, 8), Ok(list.to_vec()));
+        assert_eq!(division().write_list(&sheets, 7), too_short(8));
+        assert_eq!(division().list_length(&sheets), Ok(8));
+        assert_eq!(division().read_list(&list, 3), (sheets.to_vec(), Ok(())));
+        assert_eq!(division().read_list(&list[..5], 3), (vec![0, 344], refuse(11)));
+        assert_eq!(division().read_list(&list, 2), (vec![], too_short(3)));
+        assert_eq!(division().write_list(&[], 1), Ok(vec![0]));
+        assert_eq!(division().read_list(&[0], 0), (vec![], Ok(())));
+        assert_eq!(division().read_list(&[0x80, 0x80, 0x80, 0x80], 9), (vec![], refuse(12)));
+        assert_eq!(division().read_list(&[0x80, 0x80, 0x80], 9), (vec![], refuse(11)));
+        assert_eq!(division().read_list(&[0x80, 0x80, 0x80, 0x00], 9), (vec![], refuse(12)));
+        assert_eq!(division().read_list(&[0, 0], 9), (vec![], refuse(14)));
+        assert_eq!(division().read_list(&[0x81, 0x20], 0), (vec![], refuse(12)));
+        assert_eq!(division().list_length(&[5, 5, LAST_SHEET + 1]), refuse(15));
+        assert_eq!(division().list_length(&[5, LAST_SHEET + 1, 5]), refuse(3));
+    }
+
+    #[test]
+    fn covers() {
+        let window = Frame { west: 200_000_000, east: 260_000_000, south: 5_150_000_000, north: 5_170_000_000 };
+        assert_eq!(division().cover(4, window, 8), Ok(vec![774, 775, 778, 779, 776, 777, 780, 781]));
+        assert_eq!(division().cover(4, window, 7), too_short(8));
+        let area = Frame { west: AREA_WEST, east: AREA_EAST, south: AREA_SOUTH, north: AREA_NORTH };
+        for scale in 1..=9 {
+            let count = division().cover(scale, area, MOST).map(|sheets| sheets.len());
+            assert_eq!(count, if scale < 5 { Ok(SCALES[scale as usize - 1].sheets as usize) } else { refuse(9) });
+        }
+        assert_eq!(division().cover(4, Frame { east: AREA_WEST, ..area }, 8), refuse(7));
+        assert_eq!(division().cover(4, Frame { east: AREA_EAST + 1, ..area }, 8), refuse(8));
+    }
+
+    #[test]
+    fn relations() {
+        assert_eq!(division().parent(3_657_982), read("1-3-301-109-11"));
+        assert_eq!(division().parent(344), refuse(6));
+        assert_eq!(division().child(344, 7, 301), read("2-301-109-11"));
+        assert_eq!(division().child(344, 8, 1), refuse(6));
+        assert_eq!(division().child(1456, 5, 1), refuse(6));
+        assert_eq!(division().child(LAST_SHEET + 1, 0, 1), refuse(3));
+        assert_eq!(division().child(344, 0, 1), refuse(2));
+        assert_eq!(division().step(344, 1, -1), read("50-108-12"));
+        assert_eq!(division().step(344, i64::MIN, i64::MAX), refuse(6));
+        assert_eq!(division().offset(read("50-109-11").unwrap(), read("50-110-9").unwrap()), Ok((-2, 1)));
+        assert_eq!(division().offset(0, 24), refuse(6));
+        assert_eq!(division().neighbours(0)[1], [None, Some(0), Some(1)]);
+        assert_eq!(division().neighbours(0)[2], [None, Some(4), Some(5)]);
+        assert_eq!(division().neighbours(LAST_SHEET + 1), [[None; 3]; 3]);
+    }
+
+    #[test]
+    fn lines() {
+        let line = |text: &str| division().read_line(text.as_bytes());
+        assert_eq!(line("50-109-11"), Line { sheet: Ok(344), label: 0..9, name: 9..9 });
+        assert_eq!(line("50-109-11 Prelog (sjever)"), Line { sheet: Ok(344), label: 0..9, name: 10..25 });
+        for (text, number) in [("", 4), (" ", 4), ("50-109-11 ", 16), ("2-301-109-11 ", 17), ("50-131-1  x", 5), ("50-109-11\r", 4)] {
+            assert_eq!(line(text), Line { sheet: refuse(number), label: 0..0, name: 0..0 }, "{text}");
+        }
+        for (length, fine) in [(0, false), (1, true), (48, true), (49, false)] {
+            assert_eq!(line(&format!("50-109-11 {}", "x".repeat(length))).sheet.is_ok(), fine);
+        }
+        let caption = |text: &str| division().caption(text.as_bytes(), b"none");
+        assert_eq!(caption("50-109-11"), Caption::OfFallback(0..4));
+        assert_eq!(caption("50-109-11 Rab"), Caption::OfLine(10..13));
+        assert_eq!(caption("50-109-11 "), Caption::OfLine(0..0));
+    }
+}

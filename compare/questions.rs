@@ -1,0 +1,1013 @@
+// What is asked: from every kind of question the plain cases, the borders by one, the extremes, and what is damaged.
+
+use crate::ask::{Asker, Question};
+use crate::paper::{self, Division, Frame, Made, AREA_EAST, AREA_NORTH, AREA_SOUTH, AREA_WEST, LAST_SHEET, MOST, SCALES};
+
+/// Numbers by chance, the same for the same seed.
+struct Chance(u64);
+
+impl Chance {
+    fn next(&mut self) -> u64 {
+        self.0 = self.0.wrapping_add(0x9E37_79B9_7F4A_7C15);
+        let mut mixed = self.0;
+        mixed = (mixed ^ (mixed >> 30)).wrapping_mul(0xBF58_476D_1CE4_E5B9);
+        mixed = (mixed ^ (mixed >> 27)).wrapping_mul(0x94D0_49BB_1331_11EB);
+        mixed ^ (mixed >> 31)
+    }
+    /// From 0 up to the number, without it.
+    fn below(&mut self, number: usize) -> usize {
+        ((self.next() >> 32) * number as u64 >> 32) as usize
+    }
+    /// From the one up to the other, with both.
+    fn from_to(&mut self, low: i64, high: i64) -> i64 {
+        low + self.next().checked_rem((high - low) as u64 + 1).unwrap_or(0) as i64
+    }
+    fn one_in(&mut self, number: usize) -> bool {
+        self.below(number) == 0
+    }
+    fn of<T: Copy>(&mut self, choices: &[T]) -> T {
+        choices[self.below(choices.len())]
+    }
+    fn bytes(&mut self, count: usize) -> Vec<u8> {
+        (0..count).map(|_| self.next() as u8).collect()
+    }
+    /// A number of any size: its highest bit is by chance, too.
+    fn any_u32(&mut self) -> u32 {
+        (self.next() as u32) >> self.below(32)
+    }
+    fn any_i64(&mut self) -> i64 {
+        (self.next() as i64) >> self.below(64)
+    }
+}
+
+const EXTREME_U32: [u32; 20] = [
+    0,
+    1,
+    9,
+    10,
+    127,
+    128,
+    255,
+    256,
+    65_535,
+    65_536,
+    LAST_SHEET - 1,
+    LAST_SHEET,
+    LAST_SHEET + 1,
+    (1 << 23) - 1,
+    1 << 23,
+    (1 << 28) - 1,
+    (1 << 31) - 1,
+    1 << 31,
+    u32::MAX - 1,
+    u32::MAX,
+];
+
+const EXTREME_I64: [i64; 20] = [
+    i64::MIN,
+    i64::MIN + 1,
+    i64::MIN + AREA_WEST,
+    i64::MIN + AREA_NORTH,
+    -(1 << 53),
+    -(1 << 32) - 1,
+    -(1 << 32),
+    -(1 << 31) - 1,
+    -(1 << 31),
+    -1,
+    0,
+    1,
+    (1 << 31) - 1,
+    1 << 31,
+    (1 << 32) - 1,
+    1 << 32,
+    i64::MAX - AREA_NORTH,
+    i64::MAX - AREA_WEST,
+    i64::MAX - 1,
+    i64::MAX,
+];
+
+const BORDERS: [i64; 4] = [AREA_WEST, AREA_EAST, AREA_SOUTH, AREA_NORTH];
+
+/// First numbers of labels, known ones and others, some of which are a known one where digits wrap.
+const FIRSTS: [&str; 30] = [
+    "250", "100", "50", "25", "10", "5", "2", "1", "5", "0", "00", "05", "3", "4", "6", "20", "51", "101", "200", "251", "500", "1000",
+    "2500", "306", "261", "65586", "65541", "4294967346", "4294967297", "0,5",
+];
+
+/// Fields of labels: what the ranges end at, and what wraps to a number within them.
+const FIELDS: [&str; 60] = [
+    "0", "1", "2", "3", "4", "5", "6", "7", "9", "10", "11", "15", "16", "19", "20", "21", "24", "25", "26", "30", "31", "99", "100", "101",
+    "102", "104", "105", "106", "107", "109", "110", "114", "115", "116", "120", "125", "129", "130", "131", "132", "200", "201", "231",
+    "257", "301", "357", "600", "624", "625", "626", "627", "1000", "1101", "6250", "65537", "65637", "4294967297", "4294967397", "00",
+    "01",
+];
+
+struct Asking<'a, 'b> {
+    division: &'a Division,
+    chance: Chance,
+    asker: &'a mut Asker<'b>,
+}
+
+/// All questions of the short or the long form. In the long form every sheet there is has its turn.
+pub fn ask_all(division: &Division, asker: &mut Asker, seed: u64, long: bool) {
+    let times = if long { 20 } else { 1 };
+    let mut asking = Asking { division, chance: Chance(seed), asker };
+    asking.scales();
+    asking.each_label_damaged(if long { 8 } else { 1 });
+    asking.each_field();
+    asking.short_texts(if long { 6 } else { 4 });
+    asking.short_lists();
+    asking.long_sets();
+    if long {
+        asking.each_sheet();
+    }
+    for _ in 0..times {
+        // In turns, so that a fault of any kind is soon seen.
+        for _ in 0..100 {
+            for _ in 0..300 {
+                asking.about_a_sheet();
+                asking.about_a_place();
+                asking.about_a_point();
+                asking.about_a_child();
+                asking.about_a_step();
+                asking.about_an_offset();
+                asking.about_neighbours();
+                asking.about_writing_a_label();
+            }
+            for _ in 0..150 {
+                asking.about_a_cover();
+            }
+            for _ in 0..600 {
+                asking.about_a_label();
+            }
+            for _ in 0..300 {
+                asking.about_a_line();
+                asking.about_names();
+            }
+            for _ in 0..200 {
+                asking.about_a_set();
+                asking.about_a_list();
+            }
+        }
+    }
+}
+
+impl Asking<'_, '_> {
+    fn ask(&mut self, question: Question) {
+        self.asker.ask(question);
+    }
+
+    // ---- Scales and sheets ----
+
+    fn scales(&mut self) {
+        for scale in 0..600 {
+            self.ask(Question::Facts { scale });
+        }
+        for bit in 4..32 {
+            for low in 0..10 {
+                self.ask(Question::Facts { scale: (1 << bit) | low });
+                self.ask(Question::Facts { scale: u32::MAX - (1 << bit) - low });
+            }
+        }
+        for scale in EXTREME_U32 {
+            self.ask(Question::Facts { scale });
+        }
+    }
+
+    fn scale(&mut self) -> u32 {
+        match self.chance.below(40) {
+            0 => 0,
+            1 => 10,
+            2 => self.chance.any_u32(),
+            3 => self.chance.of(&EXTREME_U32),
+            4 => (1 + self.chance.below(9) as u32) | (1 << (4 + self.chance.below(28))),
+            _ => 1 + self.chance.below(9) as u32,
+        }
+    }
+
+    fn sheet_of(&mut self, scale: u32) -> u32 {
+        let facts = &SCALES[scale as usize - 1];
+        match self.chance.below(8) {
+            0 => facts.first,
+            1 => facts.first + facts.sheets - 1,
+            // On the border of the grid.
+            2 | 3 => {
+                let (rows, columns) = self.division.grid_size(scale);
+                let near = |chance: &mut Chance, all: u64| match chance.below(5) {
+                    0 => 0,
+                    1 => 1,
+                    2 => all as i128 - 2,
+                    3 => all as i128 - 1,
+                    _ => chance.below(all as usize) as i128,
+                };
+                let (row, column) = (near(&mut self.chance, rows), near(&mut self.chance, columns));
+                self.division.sheet_on(scale, row, column).expect("a sheet")
+            }
+            _ => facts.first + self.chance.below(facts.sheets as usize) as u32,
+        }
+    }
+
+    fn good_sheet(&mut self) -> u32 {
+        let scale = 1 + self.chance.below(9) as u32;
+        self.sheet_of(scale)
+    }
+
+    fn sheet(&mut self) -> u32 {
+        match self.chance.below(24) {
+            0 => self.chance.of(&EXTREME_U32),
+            1 => self.chance.any_u32(),
+            2 => self.good_sheet().wrapping_sub(1),
+            3 => self.good_sheet() + 1,
+            4 => self.good_sheet() | (1 << (23 + self.chance.below(9))),
+            _ => self.good_sheet(),
+        }
+    }
+
+    fn about_a_sheet(&mut self) {
+        let sheet = self.sheet();
+        self.ask_of_sheet(sheet);
+    }
+
+    fn ask_of_sheet(&mut self, sheet: u32) {
+        self.ask(Question::ScaleOf { sheet });
+        self.ask(Question::Locate { sheet });
+        self.ask(Question::Corners { sheet });
+        self.ask(Question::Parent { sheet });
+        self.ask(Question::LabelLength { sheet });
+    }
+
+    /// Every sheet, its neighbours, its label, and the ways back: by the place, the corner points, the parent and the label.
+    fn each_sheet(&mut self) {
+        for sheet in 0..=LAST_SHEET {
+            self.ask_of_sheet(sheet);
+            self.ask(Question::Neighbours { sheet, room: 9 });
+            self.ask(Question::WriteLabel { sheet, room: 16 });
+            let place = self.division.place(sheet).expect("a sheet");
+            self.ask(Question::SheetOn { scale: place.scale, row: place.row, column: place.column });
+            let frame = self.division.frame(sheet).expect("a sheet");
+            self.ask(Question::SheetAt { scale: place.scale, e: frame.west, n: frame.north });
+            self.ask(Question::SheetAt { scale: place.scale, e: frame.east - 1, n: frame.south + 1 });
+            let label = self.division.write_label(sheet, 16).expect("a sheet");
+            self.ask(Question::ReadLabel { label: label.text().to_vec() });
+            if let Ok(parent) = self.division.parent(sheet) {
+                let number = self.division.number(sheet);
+                self.ask(Question::Child { sheet: parent, scale: place.scale, number });
+            }
+        }
+    }
+
+    // ---- Places and points ----
+
+    fn about_a_place(&mut self) {
+        let scale = self.scale();
+        let (rows, columns) = self.division.grid_size(if (1..=9).contains(&scale) { scale } else { 3 });
+        let chance = &mut self.chance;
+        let mut near = |all: u64, other: u64| match chance.below(12) {
+            0 => 0,
+            1 => all as u32 - 1,
+            2 => all as u32,
+            3 => chance.of(&EXTREME_U32),
+            4 => chance.any_u32(),
+            // Where a product with the other side wraps.
+            5 => (((1u64 << 32) / other) as u32).wrapping_add(chance.below(3) as u32).wrapping_sub(1),
+            6 => chance.below(all as usize) as u32 | (1 << (12 + chance.below(20))),
+            _ => chance.below(all as usize) as u32,
+        };
+        let (row, column) = (near(rows, columns), near(columns, rows));
+        self.ask(Question::SheetOn { scale, row, column });
+    }
+
+    /// A number of millimetres to the east (or else north), mostly of the area, often at an edge of a grid.
+    fn coordinate(&mut self, east: bool) -> i64 {
+        let (low, high) = if east { (AREA_WEST, AREA_EAST) } else { (AREA_SOUTH, AREA_NORTH) };
+        match self.chance.below(20) {
+            0 => self.chance.of(&EXTREME_I64),
+            1 => self.chance.any_i64(),
+            2 => self.chance.of(&BORDERS) + self.chance.from_to(-1, 1),
+            3 => low + self.chance.from_to(-1, 1),
+            4 => high + self.chance.from_to(-1, 1),
+            // In metres, in the wrong sense, or on the wrong side of a wrap.
+            5 => match self.chance.below(4) {
+                0 => self.chance.from_to(low / 1000, high / 1000),
+                1 => -self.chance.from_to(low, high),
+                2 => self.chance.from_to(low, high) + (1 << (32 + self.chance.below(31))),
+                _ => self.chance.from_to(low, high) - (1 << (32 + self.chance.below(31))),
+            },
+            6..=12 => {
+                let facts = &SCALES[self.chance.below(9)];
+                let side = 1000 * if east { facts.width } else { facts.height };
+                low + self.chance.from_to(0, (high - low) / side) * side + self.chance.from_to(-1, 1)
+            }
+            _ => self.chance.from_to(low, high),
+        }
+    }
+
+    fn about_a_point(&mut self) {
+        let (e, n) = (self.coordinate(true), self.coordinate(false));
+        if self.chance.one_in(3) {
+            for scale in 1..=9 {
+                self.ask(Question::SheetAt { scale, e, n });
+            }
+        } else {
+            let scale = self.scale();
+            self.ask(Question::SheetAt { scale, e, n });
+        }
+    }
+
+    // ---- Relations ----
+
+    fn about_a_child(&mut self) {
+        let sheet = self.sheet();
+        let own = paper::scale_of(sheet).unwrap_or(3);
+        let made = |from: u32| (1..=9).filter(move |&scale| matches!(SCALES[scale - 1].made, Made::Scale(of, _) if of == from));
+        let made: Vec<u32> = made(own).map(|scale| scale as u32).collect();
+        let scale = if !made.is_empty() && !self.chance.one_in(4) { self.chance.of(&made) } else { self.scale() };
+        let parts = match SCALES.get((scale as usize).wrapping_sub(1)).map(|facts| facts.made) {
+            Some(Made::Scale(_, side)) => side * side,
+            _ => 25,
+        };
+        let number = match self.chance.below(12) {
+            0 => 0,
+            1 => 1,
+            2 => parts,
+            3 => parts + 1,
+            4 => self.chance.of(&EXTREME_U32),
+            5 => self.chance.any_u32(),
+            6 => (1 + self.chance.below(parts as usize) as u32) | (1 << (10 + self.chance.below(22))),
+            _ => 1 + self.chance.below(parts as usize) as u32,
+        };
+        self.ask(Question::Child { sheet, scale, number });
+    }
+
+    fn about_a_step(&mut self) {
+        let sheet = self.sheet();
+        let place = self.division.place(sheet).unwrap_or(paper::Place { scale: 3, row: 5, column: 5 });
+        let (rows, columns) = self.division.grid_size(place.scale);
+        let chance = &mut self.chance;
+        let mut amount = |at: u32, all: u64| {
+            let (back, on) = (-(at as i64), all as i64 - 1 - at as i64);
+            match chance.below(14) {
+                0 => chance.of(&EXTREME_I64),
+                1 => chance.any_i64(),
+                2 => back - 1,
+                3 => back,
+                4 => on,
+                5 => on + 1,
+                6 => chance.from_to(back, on) + (1 << (16 + chance.below(47))),
+                7 => chance.from_to(back, on) - (1 << (16 + chance.below(47))),
+                8 => chance.from_to(-1, 1),
+                // Where a sum of the two wraps, or just does not.
+                9 => i64::MAX - at as i64,
+                10 => i64::MAX - at as i64 + 1.min(at as i64),
+                _ => chance.from_to(back, on),
+            }
+        };
+        let (east, south) = (amount(place.column, columns), amount(place.row, rows));
+        self.ask(Question::Step { sheet, east, south });
+    }
+
+    fn about_an_offset(&mut self) {
+        let a = self.sheet();
+        let b = match paper::scale_of(a) {
+            Ok(scale) if !self.chance.one_in(6) => self.sheet_of(scale),
+            _ => self.sheet(),
+        };
+        self.ask(Question::Offset { a, b });
+    }
+
+    fn about_neighbours(&mut self) {
+        let sheet = self.sheet();
+        let room = match self.chance.below(8) {
+            0 => self.chance.below(9),
+            1 => 8,
+            2 => 10,
+            3 => 10 + self.chance.below(90),
+            _ => 9,
+        };
+        self.ask(Question::Neighbours { sheet, room });
+    }
+
+    /// A window of so many columns and rows of a scale, its edges at the sheets' or a little off them, or within a sheet.
+    fn window_of(&mut self, scale: u32, columns: i64, rows: i64) -> Frame {
+        let facts = &SCALES[scale as usize - 1];
+        let (all_rows, all_columns) = self.division.grid_size(scale);
+        let (width, height) = (facts.width * 1000, facts.height * 1000);
+        let chance = &mut self.chance;
+        let column = chance.from_to(0, (all_columns as i64 - columns).max(0));
+        let row = chance.from_to(0, (all_rows as i64 - rows).max(0));
+        let mut off = |side: i64| match chance.below(10) {
+            0 => -1,
+            1 => 1,
+            2 => chance.from_to(-side, side),
+            3 => side - 1,
+            4 => 1 - side,
+            _ => 0,
+        };
+        Frame {
+            west: AREA_WEST + column * width + off(width),
+            east: AREA_WEST + (column + columns) * width + off(width),
+            south: AREA_NORTH - (row + rows) * height + off(height),
+            north: AREA_NORTH - row * height + off(height),
+        }
+    }
+
+    fn window(&mut self, scale: u32) -> Frame {
+        match self.chance.below(40) {
+            // As it comes.
+            0 | 1 => Frame {
+                west: self.coordinate(true),
+                east: self.coordinate(true),
+                south: self.coordinate(false),
+                north: self.coordinate(false),
+            },
+            // The whole area, or a little more or less.
+            2 => {
+                let chance = &mut self.chance;
+                let mut off = || if chance.one_in(2) { 0 } else { chance.from_to(-1, 1) };
+                Frame { west: AREA_WEST + off(), east: AREA_EAST + off(), south: AREA_SOUTH + off(), north: AREA_NORTH + off() }
+            }
+            // About as many sheets as may be.
+            3 | 4 => {
+                let (columns, rows) = self.chance.of(&[
+                    (64, 64),
+                    (63, 65),
+                    (65, 63),
+                    (17, 241),
+                    (241, 17),
+                    (2, 2048),
+                    (3, 1365),
+                    (1366, 3),
+                    (1, 3000),
+                    (2000, 2),
+                    (2000, 3),
+                    (4, 1024),
+                    (1024, 4),
+                    (60, 60),
+                    (128, 32),
+                    (31, 132),
+                ]);
+                self.window_of(scale, columns, rows)
+            }
+            // One to three millimetres each way, often where sheets meet.
+            5..=9 => {
+                let (west, south) = (self.coordinate(true), self.coordinate(false));
+                let (east, north) = (self.chance.from_to(0, 3), self.chance.from_to(0, 3));
+                Frame { west, east: west.saturating_add(east), south, north: south.saturating_add(north) }
+            }
+            // Edges that meet or cross.
+            10 | 11 => {
+                let mut window = self.window_of(scale, 2, 2);
+                match self.chance.below(4) {
+                    0 => window.east = window.west,
+                    1 => window.north = window.south,
+                    2 => std::mem::swap(&mut window.west, &mut window.east),
+                    _ => std::mem::swap(&mut window.south, &mut window.north),
+                }
+                window
+            }
+            // An edge that is extreme, or outside by a little.
+            12..=14 => {
+                let mut window = self.window_of(scale, 2, 2);
+                let edge = if self.chance.one_in(2) { self.chance.of(&EXTREME_I64) } else { self.coordinate(true) };
+                match self.chance.below(8) {
+                    0 => window.west = edge,
+                    1 => window.east = edge,
+                    2 => window.south = edge,
+                    3 => window.north = edge,
+                    4 => window.west = AREA_WEST + self.chance.from_to(-1, 0),
+                    5 => window.east = AREA_EAST + self.chance.from_to(0, 1),
+                    6 => window.south = AREA_SOUTH + self.chance.from_to(-1, 0),
+                    _ => window.north = AREA_NORTH + self.chance.from_to(0, 1),
+                }
+                window
+            }
+            15 | 16 => {
+                let (columns, rows) = (self.chance.from_to(1, 40), self.chance.from_to(1, 40));
+                self.window_of(scale, columns, rows)
+            }
+            _ => {
+                let (columns, rows) = (self.chance.from_to(1, 5), self.chance.from_to(1, 5));
+                self.window_of(scale, columns, rows)
+            }
+        }
+    }
+
+    fn about_a_cover(&mut self) {
+        let scale = self.scale();
+        let window = self.window(if (1..=9).contains(&scale) { scale } else { 4 });
+        let needed = match self.division.cover(scale, window, 0) {
+            Err(refusal) if refusal.number == 10 => refusal.value as usize,
+            _ => 5,
+        };
+        let room = match self.chance.below(12) {
+            0 => 0,
+            1 => needed - 1,
+            2 => self.chance.below(needed),
+            3 => needed + 1,
+            4 => needed + self.chance.below(100),
+            5 => MOST,
+            _ => needed,
+        };
+        self.ask(Question::Cover { scale, window, room });
+    }
+
+    // ---- Labels ----
+
+    fn label_of(&self, sheet: u32) -> Vec<u8> {
+        self.division.write_label(sheet, 16).expect("a sheet").text().to_vec()
+    }
+
+    fn about_writing_a_label(&mut self) {
+        let sheet = self.sheet();
+        let needed = self.division.label_length(sheet).unwrap_or(8) as usize;
+        let room = match self.chance.below(12) {
+            0 => 0,
+            1 => needed - 1,
+            2 => self.chance.below(needed),
+            3 => needed + 1,
+            4 => 16,
+            5 => 17 + self.chance.below(40),
+            _ => needed,
+        };
+        self.ask(Question::WriteLabel { sheet, room });
+    }
+
+    /// Of some labels of each scale: every byte changed to every other, every byte put in at every place, every byte dropped,
+    /// every beginning and end.
+    fn each_label_damaged(&mut self, times: usize) {
+        for _ in 0..times {
+            for scale in 1..=9 {
+                let sheet = self.sheet_of(scale);
+                let good = self.label_of(sheet);
+                for place in 0..=good.len() {
+                    for byte in 0..=255 {
+                        let mut label = good.clone();
+                        label.insert(place, byte);
+                        self.ask(Question::ReadLabel { label });
+                        if place < good.len() {
+                            let mut label = good.clone();
+                            label[place] = byte;
+                            self.ask(Question::ReadLabel { label });
+                        }
+                    }
+                    if place < good.len() {
+                        let mut label = good.clone();
+                        label.remove(place);
+                        self.ask(Question::ReadLabel { label });
+                    }
+                    self.ask(Question::ReadLabel { label: good[..place].to_vec() });
+                    self.ask(Question::ReadLabel { label: good[place..].to_vec() });
+                }
+            }
+        }
+    }
+
+    /// Of a label of each scale: every field through all numbers that may be in range and well beyond.
+    fn each_field(&mut self) {
+        for scale in 1..=9 {
+            let sheet = self.sheet_of(scale);
+            let good = self.label_of(sheet);
+            let fields: Vec<&[u8]> = good.split(|&byte| byte == b'-').collect();
+            for place in 0..fields.len() {
+                for number in 0..=1100u64 {
+                    let text = match number {
+                        1001.. => (number - 1001) + (1 << (8 * (1 + number % 4))),
+                        _ => number,
+                    }
+                    .to_string();
+                    let mut fields = fields.clone();
+                    fields[place] = text.as_bytes();
+                    self.ask(Question::ReadLabel { label: fields.join(&b'-') });
+                }
+            }
+        }
+    }
+
+    /// All texts of a few bytes over a few letters.
+    fn short_texts(&mut self, most: u32) {
+        const LETTERS: &[u8] = b"-0125/: ";
+        for length in 0..=most {
+            for choice in 0..LETTERS.len().pow(length) {
+                let label: Vec<u8> = (0..length).map(|k| LETTERS[choice / LETTERS.len().pow(k) % LETTERS.len()]).collect();
+                self.ask(Question::ReadLabel { label: label.clone() });
+                self.ask(Question::ReadLine { line: label });
+            }
+        }
+    }
+
+    fn damage_label(&mut self, label: &mut Vec<u8>) {
+        const NEAR: &[u8] = b"0123456789-0-/: ,.+";
+        let mut fields: Vec<Vec<u8>> = label.split(|&byte| byte == b'-').map(|field| field.to_vec()).collect();
+        let chance = &mut self.chance;
+        let place = chance.below(label.len() + 1);
+        let within = chance.below(label.len().max(1));
+        let (one, other) = (chance.below(fields.len()), chance.below(fields.len()));
+        match chance.below(16) {
+            0 if !label.is_empty() => label[within] = chance.next() as u8,
+            1 if !label.is_empty() => label[within] = chance.of(NEAR),
+            2 => label.insert(place, chance.next() as u8),
+            3 => label.insert(place, chance.of(NEAR)),
+            4 if !label.is_empty() => {
+                label.remove(within);
+            }
+            5 => label.truncate(within),
+            6 => label.extend(fields[one].clone()),
+            7 => {
+                let more = 1 + chance.below(8);
+                label.extend(chance.bytes(more));
+            }
+            kind => {
+                match kind {
+                    8 => fields[one].insert(0, b'0'),
+                    9 => fields.swap(one, other),
+                    10 => fields[0] = chance.of(&FIRSTS).as_bytes().to_vec(),
+                    11 | 12 => fields[one] = chance.of(&FIELDS).as_bytes().to_vec(),
+                    13 => fields.insert(one, chance.of(&FIELDS).as_bytes().to_vec()),
+                    14 if fields.len() > 1 => {
+                        fields.remove(one);
+                    }
+                    _ => fields[one] = Vec::new(),
+                }
+                *label = fields.join(&b'-');
+            }
+        }
+    }
+
+    fn label(&mut self) -> Vec<u8> {
+        match self.chance.below(10) {
+            0 => {
+                let length = self.chance.below(20);
+                self.chance.bytes(length)
+            }
+            1 => {
+                let length = self.chance.below(19);
+                (0..length).map(|_| self.chance.of(b"0123456789-----")).collect()
+            }
+            // A known first number with its count of fields, or another.
+            2 | 3 => {
+                let scale = self.chance.of(&SCALES);
+                let first = if self.chance.one_in(4) { self.chance.of(&FIRSTS) } else { scale.mark };
+                let count = if self.chance.one_in(4) { 1 + self.chance.below(8) } else { scale.fields };
+                let mut fields = vec![first];
+                while fields.len() < count {
+                    fields.push(self.chance.of(&FIELDS));
+                }
+                fields.join("-").into_bytes()
+            }
+            4 | 5 => {
+                let sheet = self.good_sheet();
+                self.label_of(sheet)
+            }
+            _ => {
+                let sheet = self.good_sheet();
+                let mut label = self.label_of(sheet);
+                for _ in 0..1 + self.chance.below(2) {
+                    self.damage_label(&mut label);
+                }
+                label
+            }
+        }
+    }
+
+    fn about_a_label(&mut self) {
+        let label = self.label();
+        self.ask(Question::ReadLabel { label });
+    }
+
+    // ---- Catalogue lines ----
+
+    fn name(&mut self) -> Vec<u8> {
+        let length = match self.chance.below(16) {
+            0 => 0,
+            1 => 1,
+            2 => 2,
+            3 => 47,
+            4 => 48,
+            5 => 49,
+            6 => 50 + self.chance.below(10),
+            7 if self.chance.one_in(400) => 50 + self.chance.below(100_000),
+            7 if self.chance.one_in(20) => 50 + self.chance.below(1_000),
+            _ => 1 + self.chance.below(48),
+        };
+        let chance = &mut self.chance;
+        let mut name: Vec<u8> = match chance.below(3) {
+            0 => (0..length).map(|_| 33 + chance.below(94) as u8).collect(),
+            1 => (0..length).map(|_| chance.of("Crikvenica Šibenik (sjever) Žumberak".as_bytes())).collect(),
+            _ => chance.bytes(length).into_iter().map(|byte| if byte < 33 || byte == 127 { byte | 128 } else { byte }).collect(),
+        };
+        if !name.is_empty() && chance.one_in(3) {
+            // A byte that may be wrong, first, last or anywhere.
+            let byte = match chance.below(8) {
+                0 => 32,
+                1 => 31,
+                2 => 127,
+                3 => 128,
+                4 => 126,
+                5 => chance.below(33) as u8,
+                6 => chance.of(b"\0\t\n\r\x1b\xff"),
+                _ => chance.next() as u8,
+            };
+            let place = match chance.below(4) {
+                0 => 0,
+                1 => length - 1,
+                2 => length.min(48) - 1,
+                _ => chance.below(length),
+            };
+            name[place] = byte;
+        }
+        name
+    }
+
+    fn line(&mut self) -> Vec<u8> {
+        let mut line = if self.chance.one_in(5) {
+            self.label()
+        } else {
+            let scale = if self.chance.one_in(5) { 7 + self.chance.below(3) } else { 1 + self.chance.below(6) };
+            let sheet = self.sheet_of(scale as u32);
+            self.label_of(sheet)
+        };
+        match self.chance.below(16) {
+            0 => {}
+            1 => line.push(b' '),
+            2 => line.extend(b"  "),
+            3 => line.push(b'\r'),
+            4 => line.insert(0, b' '),
+            5 => {
+                line.push(self.chance.of(b"\t\n\r\x0b\xa0,;"));
+                line.extend(self.name());
+            }
+            6 => {
+                let length = self.chance.below(120);
+                line = self.chance.bytes(length);
+            }
+            7 => {
+                line.push(b' ');
+                line.extend(self.name());
+                line.push(self.chance.of(b"\r\n "));
+            }
+            _ => {
+                line.push(b' ');
+                line.extend(self.name());
+            }
+        }
+        line
+    }
+
+    fn about_a_line(&mut self) {
+        let line = self.line();
+        let length = match self.chance.below(6) {
+            0 => 0,
+            1 => 1,
+            2 => 1_000,
+            _ => self.chance.below(60),
+        };
+        let fallback = self.chance.bytes(length);
+        self.ask(Question::ReadLine { line: line.clone() });
+        self.ask(Question::LineParts { line: line.clone() });
+        self.ask(Question::Caption { line, fallback });
+    }
+
+    fn about_names(&mut self) {
+        let a = self.name();
+        let mut b = a.clone();
+        match self.chance.below(8) {
+            0 => b.push(self.chance.next() as u8),
+            1 => {
+                b.pop();
+            }
+            2 => b = self.name(),
+            3 | 4 if !b.is_empty() => {
+                let place = self.chance.below(b.len());
+                b[place] ^= 1 << self.chance.below(8);
+            }
+            5 if !b.is_empty() => {
+                let last = b.len() - 1;
+                b[last] = b[last].wrapping_add(1);
+            }
+            _ => {}
+        }
+        if self.chance.one_in(2) {
+            self.ask(Question::SameName { a, b });
+        } else {
+            self.ask(Question::SameName { a: b, b: a });
+        }
+    }
+
+    // ---- Shelf lists ----
+
+    /// A rising set of about so many sheets, by gaps; the gaps are of each length in bytes.
+    fn rising(&mut self, count: usize) -> Vec<u32> {
+        let mut sheets = Vec::with_capacity(count);
+        let wide = self.chance.below(4);
+        let mut next: u64 = if self.chance.one_in(2) { 0 } else { self.chance.below(LAST_SHEET as usize) as u64 };
+        if count > 100 {
+            next %= 100_000;
+        }
+        while sheets.len() < count {
+            let gap = match (wide, self.chance.below(20)) {
+                (_, 0) => self.chance.of(&[0, 1, 126, 127, 128, 129]),
+                (_, 1) if count < 1000 => self.chance.of(&[16_382, 16_383, 16_384, 16_385]),
+                (_, 2) if count < 20 => self.chance.of(&[2_097_150, 2_097_151, 2_097_152, 2_097_153]),
+                (0, _) => 0,
+                (1, _) => self.chance.below(200) as u64,
+                (2, _) => self.chance.below(3 * LAST_SHEET as usize / 2 / count) as u64,
+                _ => self.chance.below(20) as u64,
+            };
+            if next + gap > LAST_SHEET as u64 {
+                break;
+            }
+            sheets.push((next + gap) as u32);
+            next += gap + 1;
+        }
+        if self.chance.one_in(12) && sheets.len() < MOST && sheets.last() != Some(&LAST_SHEET) {
+            sheets.push(LAST_SHEET);
+        }
+        sheets
+    }
+
+    fn set(&mut self) -> Vec<u32> {
+        let count = match self.chance.below(60) {
+            0 => 0,
+            1 => 4_094 + self.chance.below(6),
+            2 => self.chance.below(5_000),
+            3 => 100 + self.chance.below(400),
+            4 => 126 + self.chance.below(5),
+            _ => 1 + self.chance.below(12),
+        };
+        let mut sheets = self.rising(count);
+        // One fault or two, of a kind each.
+        if !sheets.is_empty() && self.chance.one_in(3) {
+            for _ in 0..1 + self.chance.below(2) {
+                let place = self.chance.below(sheets.len());
+                match self.chance.below(8) {
+                    0 => sheets[place] = LAST_SHEET + 1,
+                    1 => sheets[place] = self.chance.of(&EXTREME_U32),
+                    2 => sheets[place] = self.chance.any_u32(),
+                    3 if place > 0 => sheets[place] = sheets[place - 1],
+                    4 if place > 0 => sheets.swap(place, place - 1),
+                    5 if place > 0 => sheets[place] = sheets[place - 1].wrapping_sub(1),
+                    6 => sheets[place] = sheets[place].wrapping_add(1),
+                    _ => sheets.push(self.chance.of(&[LAST_SHEET, LAST_SHEET + 1, u32::MAX, 0])),
+                }
+            }
+        }
+        sheets
+    }
+
+    fn about_a_set(&mut self) {
+        let sheets = self.set();
+        self.ask_of_set(sheets);
+    }
+
+    fn ask_of_set(&mut self, sheets: Vec<u32>) {
+        let needed = self.division.list_length(&sheets).unwrap_or(20);
+        let room = match self.chance.below(10) {
+            0 => 0,
+            1 => needed - 1,
+            2 => self.chance.below(needed),
+            3 => needed + 1,
+            4 => needed + self.chance.below(60),
+            _ => needed,
+        };
+        self.ask(Question::ListLength { sheets: sheets.clone() });
+        self.ask(Question::WriteList { sheets, room });
+    }
+
+    /// Sets of about the most sheets, good and faulty at either end.
+    fn long_sets(&mut self) {
+        for count in [4_094, 4_095, 4_096, 4_097, 4_098, 8_192] {
+            for fault in 0..6 {
+                let first = self.chance.below(1000) as u32;
+                let step = 1 + self.chance.below(900) as u32;
+                let mut sheets: Vec<u32> = (0..count).map(|k| first + k * step).collect();
+                match fault {
+                    1 => sheets[0] = u32::MAX,
+                    2 => sheets[count as usize - 1] = LAST_SHEET + 1,
+                    3 => sheets[1] = sheets[0],
+                    4 => sheets[count as usize - 1] = sheets[count as usize - 2],
+                    5 => sheets[count as usize - 1] = LAST_SHEET,
+                    _ => {}
+                }
+                self.ask_of_set(sheets.clone());
+                if let Ok(list) = self.division.write_list(&sheets, usize::MAX) {
+                    for room in [0, sheets.len() - 1, sheets.len(), sheets.len() + 1, 4_096, 5_000] {
+                        self.ask(Question::ReadList { list: list.clone(), room });
+                        let cut = self.chance.below(list.len());
+                        self.ask(Question::ReadList { list: list[..cut].to_vec(), room });
+                        let mut more = list.clone();
+                        more.push(self.chance.next() as u8);
+                        self.ask(Question::ReadList { list: more, room });
+                    }
+                }
+            }
+        }
+    }
+
+    /// All lists of up to three bytes over a few, and of up to five over fewer, mostly with room enough.
+    fn short_lists(&mut self) {
+        const MANY: &[u8] = &[0, 1, 2, 3, 4, 31, 32, 33, 64, 127, 128, 129, 130, 131, 160, 255];
+        const FEW: &[u8] = &[0, 1, 2, 127, 128, 129, 255];
+        for (letters, most) in [(MANY, 3), (FEW, 5)] {
+            for length in 0..=most {
+                for choice in 0..letters.len().pow(length) {
+                    let list: Vec<u8> = (0..length).map(|k| letters[choice / letters.len().pow(k) % letters.len()]).collect();
+                    let room = if self.chance.one_in(4) { self.chance.below(4) } else { 200 };
+                    self.ask(Question::ReadList { list, room });
+                }
+            }
+        }
+    }
+
+    /// A number as a list has it, or in more groups than needed.
+    fn put_number(&mut self, list: &mut Vec<u8>, number: u32) {
+        let mut groups = 1;
+        while number as u64 >> (7 * groups) != 0 {
+            groups += 1;
+        }
+        if self.chance.one_in(30) {
+            groups += 1 + self.chance.below(2);
+        }
+        for k in 0..groups {
+            let high = if k + 1 < groups { 128 } else { 0 };
+            list.push((number as u64 >> (7 * k) & 127) as u8 | high);
+        }
+    }
+
+    fn list(&mut self) -> Vec<u8> {
+        if self.chance.one_in(3) {
+            // By numbers: a count, right or not, and entries that may run past the last sheet.
+            let count = self.chance.below(6);
+            let told = match self.chance.below(12) {
+                0 => count as u32 + 1,
+                1 => count.saturating_sub(1) as u32,
+                2 => self.chance.of(&[4_095, 4_096, 4_097, 8_192, 16_383, 16_384, 1 << 21, (1 << 28) - 1, 1 << 28]),
+                _ => count as u32,
+            };
+            let mut list = Vec::new();
+            self.put_number(&mut list, told);
+            let mut next = 0u32;
+            for _ in 0..count {
+                let number = match self.chance.below(10) {
+                    0 => LAST_SHEET.wrapping_sub(next),
+                    1 => LAST_SHEET.wrapping_sub(next).wrapping_add(1),
+                    2 => self.chance.any_u32(),
+                    3 => (1 << 28) - 1,
+                    4 => self.chance.of(&[127, 128, 16_383, 16_384, 2_097_151, 2_097_152]),
+                    _ => self.chance.any_u32() % 100_000,
+                };
+                self.put_number(&mut list, number);
+                next = next.wrapping_add(number).wrapping_add(1);
+            }
+            return list;
+        }
+        if self.chance.one_in(8) {
+            let length = self.chance.below(16);
+            let mut list = self.chance.bytes(length);
+            if length > 0 && self.chance.one_in(2) {
+                list[0] %= 8;
+            }
+            return list;
+        }
+        let count = match self.chance.below(60) {
+            0 => 4_095 + self.chance.below(2),
+            1 => self.chance.below(4_097),
+            2 => 120 + self.chance.below(20),
+            3 => 0,
+            _ => 1 + self.chance.below(10),
+        };
+        let sheets = self.rising(count);
+        let mut list = self.division.write_list(&sheets, usize::MAX).expect("a set");
+        let place = self.chance.below(list.len());
+        match self.chance.below(12) {
+            0 | 1 => list.truncate(place),
+            2 => list[place] = self.chance.next() as u8,
+            3 => list[place] ^= 128,
+            4 => list.insert(place, self.chance.next() as u8),
+            5 => {
+                list.remove(place);
+            }
+            6 => list.push(self.chance.of(&[0, 1, 127, 128, 255])),
+            7 => list[place] = self.chance.of(&[0, 128, 255, 127]),
+            _ => {}
+        }
+        list
+    }
+
+    fn about_a_list(&mut self) {
+        let list = self.list();
+        let told = match self.division.read_list(&list, 0).1 {
+            Err(refusal) if refusal.number == 10 => refusal.value as usize,
+            _ => 2,
+        };
+        let room = match self.chance.below(10) {
+            0 => 0,
+            1 => told - 1,
+            2 => self.chance.below(told),
+            3 => told + 1,
+            4 => told + self.chance.below(50),
+            5 => MOST,
+            _ => told,
+        };
+        self.ask(Question::ReadList { list, room });
+    }
+}

@@ -1,0 +1,43 @@
+-- What is told of an answer is told of the definition that it meets. Assumes nothing.
+use mathlib.Core.Path.{_≡_, refl, sym, ap, _∙_}
+use mathlib.Core.List.{List}
+use Prim.Native.Nat.{ℕ}
+use Rattle.refusal.specs.declared.Refusal.{Refusal}
+use Rattle.refusal.specs.Paper.{Paper, answer, refused, counted}
+use Rattle.refusal.specs.Numbers.{onPaper}
+use Rattle.refusal.proofs.PaperLaws.{on-paper}
+use Rattle.shelf.specs.declared.reading.Read.{Read}
+use Rattle.shelf.specs.Reading.{Reading, endedPaper, IsRead}
+use Rattle.qubathimi_c.specs.Plain.{counting, readCount}
+use Rattle.qubathimi_c.specs.Told.{status, carried}
+
+-- a status and a value
+pub told : {p q : Paper ℕ} {r v : ℕ} → p ≡ q → (r ≡ status p) × (v ≡ carried p) → (r ≡ status q) × (v ≡ carried q)
+told e t = (t .0 ∙ ap status e, t .1 ∙ ap carried e)
+
+-- counting what is laid leaves the status
+counted-status : (p : Paper (List ℕ)) → status (counted p) ≡ status p
+counted-status (answer items) = refl
+counted-status (refused number value) = refl
+
+-- a status, a value and the room as it is afterwards
+pub told-laid : (q : Paper (List ℕ)) {p : Paper ℕ} {r v : ℕ} {new after : List ℕ} → (p ≡ counted q) × (new ≡ after) → (r ≡ status p) × (v ≡ carried p) → (r ≡ status q) × ((v ≡ carried (counted q)) × (new ≡ after))
+told-laid q l t =
+    let s = told (l .0) t in
+    (s .0 ∙ counted-status q, (s .1, l .1))
+
+-- the arm of a match that is taken has the answer that was matched
+pub arm : {A X : Type 0} (paper : X → Paper A) {a b : X} {d : Paper A} → a ≡ b → paper a ≡ d → paper b ≡ d
+arm paper e f = ap paper (sym e) ∙ f
+
+-- a refusal is the same on paper, whatever is refused
+pub any-paper : (A : Type 0) (why : Refusal) → onPaper {A = A} why ≡ refused (status (onPaper {A = ℕ} why)) (carried (onPaper why))
+any-paper A why = rw (on-paper why .is A, on-paper why .is ℕ)
+
+-- so its number and its value are those of any definition that refuses so
+pub refused-so : {A : Type 0} (why : Refusal) {d : Paper A} {n v : ℕ} → refused n v ≡ onPaper {A = ℕ} why → onPaper why ≡ d → refused n v ≡ d
+refused-so {A} why e f = ap (λ (p : Paper ℕ). refused (status p) (carried p)) e ∙ sym (any-paper A why) ∙ f
+
+-- how a reading ended, and its count
+pub told-read : (reading : Reading) {read : Read} {r v : ℕ} → IsRead reading read → (r ≡ status (endedPaper (read .ended))) × (v ≡ carried (counting (endedPaper (read .ended)) (read .placed))) → (r ≡ status (reading .ended)) × (v ≡ carried (readCount reading))
+told-read reading i t = (t .0 ∙ ap status (i .ended), t .1 ∙ rw (i .ended, i .placed))

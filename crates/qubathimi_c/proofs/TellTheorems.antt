@@ -1,0 +1,56 @@
+-- What a caller in C is told says all that the answer says: the answer can be had back from it, so no two are told the same. Assumes nothing.
+use mathlib.Core.Path.{_≡_, refl}
+use mathlib.Core.Bool.{false, cond}
+use mathlib.Core.List.{List}
+use Prim.Native.Nat.{ℕ}
+use Rattle.refusal.specs.declared.Refusal.{Refusal}
+use Rattle.refusal.specs.declared.Laid.{Laid}
+use Rattle.refusal.specs.declared.Laid.the-variants as laid
+use Rattle.refusal.specs.Paper.{Paper, answer, refused}
+use Rattle.refusal.specs.Numbers.{onPaper, laidPaper}
+use Rattle.division.specs.declared.Found.{Found}
+use Rattle.division.specs.declared.Found.the-variants as found
+use Rattle.division.specs.declared.Neighbour.the-variants.{None}
+use Rattle.division.specs.Words.{_=?_}
+use Rattle.division.specs.Sheet.{isSheet}
+use Rattle.division.specs.Answers.{sheetPaper}
+use Rattle.catalogue.specs.Parts.{part, labelPart, Caption, ofLine, ofFallback}
+use Rattle.catalogue.proofs.PartLaws.{label-first}
+use Rattle.qubathimi_c.specs.Plain.{mark, source, partOf}
+use Rattle.qubathimi_c.specs.Told.{status, carried}
+use Rattle.refusal.proofs.PaperLaws.{on-paper}
+
+-- ---- an answer of one number
+
+-- what a caller makes of a status and a value
+abbrev pub heard : ℕ → ℕ → Paper ℕ
+heard number value = cond (number =? 0) (answer value) (refused number value)
+
+refusal-heard : (why : Refusal) → heard (status (onPaper {A = ℕ} why)) (carried (onPaper why)) ≡ onPaper why
+refusal-heard why = rw (on-paper why .is ℕ, on-paper why .some)
+
+pub sheet-heard : (a : Found) → heard (status (sheetPaper a)) (carried (sheetPaper a)) ≡ sheetPaper a
+sheet-heard (found.Sheet n) = refl
+sheet-heard (found.Refused why) = refusal-heard why
+
+pub laid-heard : (a : Laid) → heard (status (laidPaper a)) (carried (laidPaper a)) ≡ laidPaper a
+laid-heard (laid.Items n) = refl
+laid-heard (laid.Refused why) = refusal-heard why
+
+-- ---- neighbours, parts and captions
+
+-- the mark of none is not to be taken for a sheet
+pub none-is-no-sheet : isSheet (mark None) ≡ false
+none-is-no-sheet = refl
+
+-- a label begins at the line's start, so where it ends tells its part
+pub label-heard : (line : List ℕ) → labelPart line ≡ part 0 (labelPart line .end)
+label-heard line = rw (label-first line)
+
+-- what a caller makes of a source, a start and an end
+abbrev pub captionHeard : ℕ → ℕ → ℕ → Caption
+captionHeard source start end = cond (source =? 0) (ofLine (part start end)) (ofFallback (part start end))
+
+pub caption-heard : (c : Caption) → captionHeard (source c) (partOf c .start) (partOf c .end) ≡ c
+caption-heard (ofLine p) = refl
+caption-heard (ofFallback p) = refl

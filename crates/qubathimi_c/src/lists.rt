@@ -1,0 +1,64 @@
+// Shelf lists.
+use crate::tell::tell_laid;
+use crate::tell::tell_refusal;
+use shelf::reading::Ended;
+use shelf::reading::read_list;
+use shelf::writing::list_length;
+use shelf::writing::write_list;
+ghost use mathlib.Core.Path.{_≡_};
+ghost use lib.ListN.{length};
+ghost use Rattle.refusal.specs.Paper.{counted, roomAfter};
+ghost use Rattle.shelf.specs.Writing.{listLength, writeList};
+ghost use Rattle.shelf.specs.Reading.{readList, endedPaper, roomAfterRead};
+ghost use Rattle.qubathimi_c.specs.Told.{status, carried};
+ghost use Rattle.qubathimi_c.specs.Plain.{counting, readCount};
+
+#[no_mangle]
+pub extern "C" fn qubathimi_list_length(sheets: &[u32], value: &mut u64) -> u32
+    ensures { λ r. ⌜ r ≡ status (listLength (now (sheets .entry))) ⌝ }
+    ensures { λ _. ⌜ now (value .exit) ≡ carried (listLength (now (sheets .entry))) ⌝ }
+{
+    tell_laid(list_length(sheets), value)
+}
+
+#[no_mangle]
+pub extern "C" fn qubathimi_write_list(sheets: &[u32], room: &mut [u8], value: &mut u64) -> u32
+    ensures { λ r. ⌜ r ≡ status (writeList (now (sheets .entry)) (length (now (room .entry)))) ⌝ }
+    ensures { λ _. ⌜ now (value .exit) ≡ carried (counted (writeList (now (sheets .entry)) (length (now (room .entry))))) ⌝ }
+    ensures { λ _. ⌜ now (room .exit) ≡ roomAfter (writeList (now (sheets .entry)) (length (now (room .entry)))) (now (room .entry)) ⌝ }
+{
+    tell_laid(write_list(sheets, room), value)
+}
+
+// How reading ended, and the count of the sheets where it read the list whole.
+fn tell_ended(ended: Ended, count: usize, value: &mut u64) -> u32
+    ensures { λ r. ⌜ r ≡ status (endedPaper ended) ⌝ }
+    ensures { λ _. ⌜ now (value .exit) ≡ carried (counting (endedPaper ended) count) ⌝ }
+{
+    match ended {
+        Ended::Whole => {
+            *value = count as u64;
+            0
+        }
+        Ended::Refused(why) => tell_refusal(why, value),
+    }
+}
+
+#[no_mangle]
+pub extern "C" fn qubathimi_read_list(
+    list: &[u8],
+    room: &mut [u32],
+    placed: &mut u64,
+    value: &mut u64,
+) -> u32
+    ensures { λ r. ⌜ r ≡ status (readList (now (list .entry)) (length (now (room .entry))) .ended) ⌝ }
+    ensures { λ _. ⌜ now (placed .exit) ≡ length (readList (now (list .entry)) (length (now (room .entry))) .placed) ⌝ }
+    ensures { λ _. ⌜ now (value .exit) ≡ carried (readCount (readList (now (list .entry)) (length (now (room .entry))))) ⌝ }
+    ensures { λ _. ⌜ now (room .exit) ≡ roomAfterRead (readList (now (list .entry)) (length (now (room .entry)))) (now (room .entry)) ⌝ }
+{
+    let read = read_list(list, room);
+    let ended = read.ended;
+    let count = read.placed;
+    *placed = count as u64;
+    tell_ended(ended, count, value)
+}

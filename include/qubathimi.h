@@ -1,0 +1,170 @@
+/* Qubathimi for C and for any language that calls C: map sheets of nine scales, their labels, catalogue lines and shelf lists.
+ *
+ * `rt staticlib qubathimi_c` proves the functions and writes target/staticlib/libqubathimi_c.a, for x86-64 Linux; link it with this
+ * header. "Document 01" is the definition of the sheet division, its labels and the shelf list.
+ *
+ * The convention, the same for every function:
+ *  - The result is 0 where the function answers, and otherwise the number of the refusal, 1 to 17. Facts of a scale or a sheet that
+ *    cannot be refused are the result themselves.
+ *  - An answer that is one number goes to *value, and so does the count of what is laid into lent room. *value is written in every
+ *    case: of a refusal it is what the refusal carries, the room needed with 10 and otherwise 0.
+ *  - An answer of several numbers goes to a pointer for each. A refusal leaves them as they were.
+ *  - Room is lent as a pointer and the number of places (not bytes) there. A refusal writes nothing into it, save the sheets that
+ *    qubathimi_read_list has placed; places beyond an answer keep their values.
+ *  - No pointer is null, not even with a length of 0. What a call writes to overlaps nothing else that the call is given.
+ *  - Any numbers and any bytes may be asked. Where several refusals are due, the first in the order given below is the one.
+ *
+ * Sheets are named by their sheet number, 0 to 7 953 173. Points, edges and windows are whole millimetres. A sheet, a window and the
+ * area own their west and north edge, not their east and south edge. Nothing is kept between calls: any number may run at once. */
+#ifndef QUBATHIMI_H
+#define QUBATHIMI_H
+
+#include <stdbool.h>
+#include <stddef.h>
+#include <stdint.h>
+
+#ifdef __cplusplus
+extern "C" {
+#endif
+
+#define QUBATHIMI_LAST_SCALE 9
+#define QUBATHIMI_LAST_SHEET 7953173
+/* the bytes of the longest label */
+#define QUBATHIMI_LONGEST_LABEL 16
+/* the most sheets that a cover or a list has */
+#define QUBATHIMI_MOST_SHEETS 4096
+/* the places of a block of neighbours, and the mark of a place with no sheet */
+#define QUBATHIMI_NEIGHBOURS 9
+#define QUBATHIMI_NONE UINT32_C(4294967295)
+/* where a caption lies */
+#define QUBATHIMI_IN_LINE 0
+#define QUBATHIMI_IN_FALLBACK 1
+
+/* Document 01, "Numbers of refusal". */
+enum qubathimi_refusal {
+    QUBATHIMI_POINT_OUTSIDE = 1,  /* point outside the area */
+    QUBATHIMI_NO_SCALE = 2,       /* scale not 1 to 9 */
+    QUBATHIMI_NO_SHEET = 3,       /* sheet number above 7 953 173 */
+    QUBATHIMI_LABEL_FORM = 4,     /* label not well formed */
+    QUBATHIMI_FIELD_RANGE = 5,    /* a label field out of range */
+    QUBATHIMI_NO_SUCH = 6,        /* no such parent or child, step or place off the grid, offset across scales */
+    QUBATHIMI_WINDOW_ORDER = 7,   /* window with east not above west or north not above south */
+    QUBATHIMI_WINDOW_OUTSIDE = 8, /* window reaching outside the area */
+    QUBATHIMI_TOO_MANY = 9,       /* more than 4 096 sheets */
+    QUBATHIMI_ROOM = 10,          /* lent room too short; carries the room needed */
+    QUBATHIMI_ENDS_EARLY = 11,    /* list ends early */
+    QUBATHIMI_BAD_NUMBER = 12,    /* list number badly written, or count over 4 096 */
+    QUBATHIMI_PAST_LAST = 13,     /* list runs past the last sheet */
+    QUBATHIMI_MORE_BYTES = 14,    /* bytes after the list's end */
+    QUBATHIMI_NOT_RISING = 15,    /* sheets to be written not strictly rising */
+    QUBATHIMI_NAME_FORM = 16,     /* name badly formed */
+    QUBATHIMI_NAME_SCALE = 17     /* name at scale 7, 8 or 9 */
+};
+
+/* ---- Scales. Of a number that is no scale, not 1 to 9, each of these is 0. ---- */
+
+/* The width and the height of a sheet, in metres. */
+uint32_t qubathimi_width(uint32_t scale);
+uint32_t qubathimi_height(uint32_t scale);
+
+/* The rows and the columns of the whole grid. */
+uint32_t qubathimi_rows(uint32_t scale);
+uint32_t qubathimi_columns(uint32_t scale);
+
+/* The first and the last sheet number. The first of scale 1 is 0. */
+uint32_t qubathimi_first(uint32_t scale);
+uint32_t qubathimi_last(uint32_t scale);
+
+/* The scale of a sheet, 1 to 9; 0 of a number that is no sheet. */
+uint32_t qubathimi_scale_of(uint32_t sheet);
+
+/* ---- Sheets, places and points ---- */
+
+/* The scale of a sheet, and its row from the north and column from the west on the scale's grid, counted from 0. Refusal: 3. */
+uint32_t qubathimi_locate(uint32_t sheet, uint32_t *scale, uint32_t *row, uint32_t *column);
+
+/* The sheet in a row and a column of a scale, counted from 0. Refusals: 2; 6 for a row or a column off the grid. */
+uint32_t qubathimi_sheet_on(uint32_t scale, uint32_t row, uint32_t column, uint64_t *value);
+
+/* The sheet of a scale in which the point lies, e east and n north. A point on the edge between two sheets lies in the eastern and in
+ * the southern one; on the area's border, E 200 000 m and N 5 170 000 m are inside, E 800 000 m and N 4 570 000 m are outside.
+ * Refusals: 2, 1. */
+uint32_t qubathimi_sheet_at(uint32_t scale, int64_t e, int64_t n, uint64_t *value);
+
+/* The edges of a sheet. Refusal: 3. */
+uint32_t qubathimi_corners(uint32_t sheet, int64_t *west, int64_t *east, int64_t *south, int64_t *north);
+
+/* ---- Relations ---- */
+
+/* The sheet that a sheet is a part of. Sheets of scales 1 to 3 have none. Refusals: 3, 6. */
+uint32_t qubathimi_parent(uint32_t sheet, uint64_t *value);
+
+/* Part `number` of a sheet, at a scale that is made from the sheet's own; parts are numbered from 1, row by row from the upper left.
+ * Refusals: 3; 2; 6 where the scale is not made from the sheet's or has no such part. */
+uint32_t qubathimi_child(uint32_t sheet, uint32_t scale, uint32_t number, uint64_t *value);
+
+/* The sheet so many columns east and rows south of a sheet, on the grid of its scale; negative amounts go west and north. Refusals: 3;
+ * 6 for a step off the grid, however large. */
+uint32_t qubathimi_step(uint32_t sheet, int64_t east, int64_t south, uint64_t *value);
+
+/* The columns east and rows south whose step leads from sheet a to sheet b. Refusals: 3, for a or for b; 6 where their scales differ. */
+uint32_t qubathimi_offset(uint32_t a, uint32_t b, int64_t *east, int64_t *south);
+
+/* The block of three rows of three around a sheet, rows from the north, each from the west, laid into `room`: the sheet itself is the
+ * fifth. A place off the grid is QUBATHIMI_NONE, and so are all nine of a number that is no sheet. *value is 9. Refusal: 10. */
+uint32_t qubathimi_neighbours(uint32_t sheet, uint32_t *room, size_t length, uint64_t *value);
+
+/* The sheets of a scale that share a point with a window, laid into `room`: each once, rows from the north, each row from the west.
+ * *value is their count, at most 4 096. A window's edges may lie on the area's border. Refusals: 2; 7; 8; 9; 10 with the count. */
+uint32_t qubathimi_cover(uint32_t scale, int64_t west, int64_t east, int64_t south, int64_t north, uint32_t *room, size_t length,
+                         uint64_t *value);
+
+/* ---- Labels ---- */
+
+/* The sheet that a label names. Refusals: 4, of the empty label too; 5. */
+uint32_t qubathimi_read_label(const uint8_t *label, size_t length, uint64_t *value);
+
+/* How many bytes the label of a sheet has, 8 to 16. Refusal: 3. */
+uint32_t qubathimi_label_length(uint32_t sheet, uint64_t *value);
+
+/* The label of a sheet, laid into `room`, with no zero byte behind it. *value is the count of its bytes. Refusals: 3; 10. */
+uint32_t qubathimi_write_label(uint32_t sheet, uint8_t *room, size_t length, uint64_t *value);
+
+/* ---- Catalogue lines: a label, or a label, a space and a name; without the line's end ---- */
+
+/* The sheet of a line. Refusals: 4; 5; 17; 16. */
+uint32_t qubathimi_read_line(const uint8_t *line, size_t length, uint64_t *value);
+
+/* Where the parts of a line lie: the label from 0 up to *label, the name from *start up to *end. A name that is absent is empty and at
+ * the line's end. Of a refused line all three are 0. No refusal: the result is 0 for every line. */
+uint32_t qubathimi_line_parts(const uint8_t *line, size_t length, uint64_t *label, uint64_t *start, uint64_t *end);
+
+/* Where the caption of a line lies: from *start up to *end of the line (*value is QUBATHIMI_IN_LINE) or of the fallback
+ * (QUBATHIMI_IN_FALLBACK). It is the line's own name where it has one, otherwise the whole fallback, which may be any bytes; of a
+ * refused line it is empty and at the line's start. No refusal: the result is 0 for every line. */
+uint32_t qubathimi_caption(const uint8_t *line, size_t line_length, const uint8_t *fallback, size_t fallback_length, uint64_t *value,
+                           uint64_t *start, uint64_t *end);
+
+/* Whether two names are the same: whether their bytes are. */
+bool qubathimi_same_name(const uint8_t *a, size_t a_length, const uint8_t *b, size_t b_length);
+
+/* ---- Shelf lists ---- */
+
+/* How many bytes the list of a set has. Refusals: 9; then of the first faulty place 3 or 15, 3 before 15. */
+uint32_t qubathimi_list_length(const uint32_t *sheets, size_t count, uint64_t *value);
+
+/* The list of a set of strictly rising sheets, laid into `room`; the empty set is one byte, 0. *value is the count of its bytes.
+ * Refusals: 9; then of the first faulty place 3 or 15, 3 before 15; 10. */
+uint32_t qubathimi_write_list(const uint32_t *sheets, size_t count, uint8_t *room, size_t length, uint64_t *value);
+
+/* The set of a list, laid into `room` from its first place on. *placed is written in every case: how many sheets were placed, also with
+ * 11 to 14, and they stay. *value is that count too where the list is read whole. Refusals: of the count 11 or 12; 12 for a count over
+ * 4 096; 10 with the count; of each entry 11, 12 or 13; 14. */
+uint32_t qubathimi_read_list(const uint8_t *list, size_t length, uint32_t *room, size_t room_length, uint64_t *placed,
+                             uint64_t *value);
+
+#ifdef __cplusplus
+}
+#endif
+
+#endif
