@@ -4,4 +4,5 @@
 // program prints for lines, block by block, is in `rows`.
 pub mod line;
 pub mod parts;
+mod piece;
 pub mod rows;

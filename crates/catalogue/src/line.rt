@@ -1,4 +1,5 @@
 // The sheet or refusal of a line.
+use crate::piece::piece_end;
 use division::Found;
 use division::table::Scale;
 use label::reading::read_label;
@@ -15,14 +16,7 @@ ghost use Rattle.catalogue.specs.Given.{withName, namedPaper};
 pub(crate) fn label_end(line: &[u8]) -> usize
     ensures { λ r. ⌜ r ≡ length (labelIn (now (line .entry))) ⌝ }
 {
-    let mut i: usize = 0;
-    while i < line.len() {
-        if line[i] == b' ' {
-            break;
-        }
-        i += 1;
-    }
-    i
+    piece_end(line, b' ')
 }
 
 fn is_name_length(n: usize) -> bool

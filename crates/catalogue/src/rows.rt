@@ -1,5 +1,6 @@
 // The rows that the program prints for the lines of a block.
 use crate::line::read_line;
+use crate::piece::piece_end;
 use division::Corners;
 use division::Edges;
 use division::Found;
@@ -146,14 +147,7 @@ fn row(line: &[u8], number: u64, out: &mut [u8], at: usize) -> usize
 fn line_end(bytes: &[u8]) -> usize
     ensures { λ r. ⌜ r ≡ length (firstLine (now (bytes .entry))) ⌝ }
 {
-    let mut i: usize = 0;
-    while i < bytes.len() {
-        if bytes[i] == b'\n' {
-            break;
-        }
-        i += 1;
-    }
-    i
+    piece_end(bytes, b'\n')
 }
 
 // The rows of the lines of a block that a line feed ends, as long as there is room for one more.

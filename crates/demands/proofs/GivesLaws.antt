@@ -1,0 +1,88 @@
+-- A line of a cascade gives its own refusal or what the next line gives, so a cascade gives the refusals of its lines. Assumes nothing.
+use mathlib.Core.Path.{_≡_}
+use mathlib.Core.Bool.{Bool, true, false, cond, _||_}
+use mathlib.Core.List.{List, [], _∷_}
+use Prim.Native.Nat.{ℕ, zero, suc, _+_}
+use lib.Dec.{leb}
+use lib.ListN.{length, getD, drop}
+use Rattle.refusal.specs.Paper.{Paper, answer, refused, refuse_unless_, _>>_, _>>=_, roomFor, laid}
+use Rattle.division.specs.Words.{_≤?_, _<?_, _=?_}
+use Rattle.division.specs.Table.{isScale, made}
+use Rattle.division.specs.Sheet.{isSheet}
+use Rattle.label.specs.Label.{inRange, scaleNamed, wellFormed, numbersIn, sheetNamed, readLabel}
+use Rattle.shelf.specs.Number.{highs, readNumber}
+use Rattle.shelf.specs.Writing.{risingFrom, asSet}
+use Rattle.shelf.specs.Reading.{Reading, _thenRead_, readEntries}
+use Rattle.demands.specs.Demands.{isIn, Gives, answers, refuses, needs}
+
+-- ---- the lines of a cascade
+
+module _ {listed : List ℕ} where
+  pub test-gives : (n : ℕ) (test : Bool) → isIn listed n ≡ true → Gives listed (refuse n unless test)
+  test-gives n true i = answers
+  test-gives n false i = refuses i
+
+  pub then-gives : {A : Type 0} {p : Paper Unit} {next : Paper A} → Gives listed p → Gives listed next → Gives listed (p >> next)
+  then-gives answers g = g
+  then-gives (refuses i) g = refuses i
+  then-gives (needs i) g = needs i
+
+  pub line-gives : {A : Type 0} {next : Paper A} (n : ℕ) (test : Bool) → isIn listed n ≡ true → Gives listed next → Gives listed ((refuse n unless test) >> next)
+  line-gives n test i g = then-gives (test-gives n test i) g
+
+  pub found-gives : {A B : Type 0} {p : Paper A} {next : A → Paper B} → Gives listed p → ((a : A) → Gives listed (next a)) → Gives listed (p >>= next)
+  found-gives (answers {a}) h = h a
+  found-gives (refuses i) h = refuses i
+  found-gives (needs i) h = needs i
+
+  pub read-gives : {A : Type 0} {p : Paper A} (next : A → Reading) → Gives listed p → ((a : A) → Gives listed (next a .ended)) → Gives listed ((p thenRead next) .ended)
+  read-gives next (answers {a}) h = h a
+  read-gives next (refuses i) h = refuses i
+  read-gives next (needs i) h = needs i
+
+  pub room-gives : (needed room : ℕ) → isIn listed 10 ≡ true → Gives listed (roomFor needed room)
+  room-gives needed room i = by (leb needed room)
+    where
+      by : (fits : Bool) → Gives {A = Unit {0}} listed (cond fits (answer tt) (refused 10 needed))
+      by true = answers
+      by false = needs i
+
+  pub laid-gives : (items : List ℕ) (room : ℕ) → isIn listed 10 ≡ true → Gives listed (laid items room)
+  laid-gives items room i = then-gives (room-gives (length items) room i) answers
+
+  -- a refusal that is given is listed
+  pub given-listed : {A : Type 0} {n v : ℕ} → Gives {A = A} listed (refused n v) → isIn listed n ≡ true
+  given-listed (refuses i) = i
+  given-listed (needs i) = i
+
+  -- ---- what other questions ask for: a label, a set, the numbers of a list
+
+  pub label-gives : isIn listed 4 ≡ true → isIn listed 5 ≡ true → (label : List ℕ) → Gives listed (readLabel label)
+  unfolding readLabel sheetNamed
+  label-gives i j label =
+      let s = scaleNamed (getD (numbersIn label) 0 0) (length (numbersIn label)) in
+      line-gives 4 (wellFormed label) i (line-gives 4 (isScale s) i (line-gives 5 (inRange (made s) (drop 1 (numbersIn label))) j answers))
+
+  rising-gives : isIn listed 3 ≡ true → isIn listed 15 ≡ true → (least : ℕ) (sheets : List ℕ) → Gives listed (risingFrom least sheets)
+  unfolding risingFrom
+  rising-gives i j least [] = answers
+  rising-gives i j least (x ∷ xs) = line-gives 3 (isSheet x) i (line-gives 15 (least ≤? x) j (rising-gives i j (x + 1) xs))
+
+  pub set-gives : isIn listed 9 ≡ true → isIn listed 3 ≡ true → isIn listed 15 ≡ true → (sheets : List ℕ) → Gives listed (asSet sheets)
+  unfolding asSet
+  set-gives h i j sheets = line-gives 9 (length sheets ≤? 4_096) h (rising-gives i j 0 sheets)
+
+  pub number-gives : isIn listed 11 ≡ true → isIn listed 12 ≡ true → (bytes : List ℕ) → Gives listed (readNumber bytes)
+  unfolding readNumber
+  number-gives i j bytes =
+      let more = highs bytes in
+      line-gives 12 (more <? 4) j (line-gives 11 (more <? length bytes) i (line-gives 12 (more =? 0 || 1 ≤? getD bytes more 0) j answers))
+
+  pub entries-give : isIn listed 11 ≡ true → isIn listed 12 ≡ true → isIn listed 13 ≡ true → isIn listed 14 ≡ true
+      → (k least : ℕ) (bytes : List ℕ) → Gives listed (readEntries k least bytes .ended)
+  unfolding readEntries
+  entries-give h i j l zero least bytes = test-gives 14 (length bytes =? 0) l
+  entries-give h i j l (suc k) least bytes =
+      read-gives _ (number-gives h i bytes) λ gap.
+      read-gives _ (test-gives 13 (isSheet (least + gap .value)) j) λ fine.
+      entries-give h i j l k (least + gap .value + 1) (gap .rest)
