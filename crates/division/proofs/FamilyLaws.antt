@@ -1,13 +1,14 @@
 -- A scale and its parent's: a place lies in its parent's place, an index in its parent's index. Assumes nothing.
-use mathlib.Core.Path.{_≡_, refl, ap, _∙_, subst}
+use mathlib.Core.Path.{_≡_, refl, sym, ap, _∙_, subst}
 use mathlib.Core.Bool.{true}
 use Prim.Native.Nat.{ℕ, zero, suc, _+_, _-_, _*_, _/_, _%_, _≤_, _<_}
-use native.Mathlib.Nat.{mod-lt, mul-pos, mul-le-mul, mul-le-mul-right, le-trans}
+use native.Mathlib.Nat.{mod-lt, mul-pos, mul-add, mul-comm, mul-assoc, mul-le-mul, mul-le-mul-right, le-mul-of-pos-right, le-trans}
 use native.Mathlib.Omega.{arith}
 use borrow.Author.Tests.{leb-true, eqb-true}
 use Rattle.division.specs.declared.Place.{Place}
+use Rattle.division.specs.declared.table.Row.{Row}
 use Rattle.division.specs.Words.{_≤?_, _=?_, between}
-use Rattle.division.specs.Table.{Made, ofArea, ofScale, rowsOf, columnsOf, made, rows, columns, parentScale, parts, perParent, sheets, first}
+use Rattle.division.specs.Table.{Made, ofArea, ofScale, rowsOf, columnsOf, made, rows, columns, parentScale, parts, perParent, sheets, first, codeRow}
 use Rattle.division.specs.Sheet.{isSheet, scaleOf, indexOf, numberIn, parentPlace, childPlace, areaIndex, areaPlace, partIndex, indexAt, placeAt}
 use Rattle.division.specs.Relations.{isPart}
 use Rattle.division.specs.Given.{IsScale, OnGrid, Indexed, AreaPlace, Parted, Part, PartPlace}
@@ -55,6 +56,13 @@ module _ {s : ℕ} (h : IsScale s) (e : parentScale s ≡ 0 → ⊥) where
   pub sheets-family : sheets s ≡ sheets (parentScale s) * perParent s
   sheets-family = ap (λ (m : Made). rowsOf m * columnsOf m) deep ∙ sheets-parts (parentScale s) (made (parentScale s)) (parts s)
 
+  -- sheets, so many for each of the scale's, by the parent's; and so many for each part of a parent are no more
+  pub sheets-by : (n each : ℕ) → n ≡ each * sheets s → n ≡ each * perParent s * sheets (parentScale s)
+  sheets-by n each a = a ∙ ap (λ (m : ℕ). each * m) (sheets-family ∙ mul-comm (sheets (parentScale s)) (perParent s)) ∙ sym (mul-assoc each (perParent s) (sheets (parentScale s)))
+
+  pub each-few : (n each : ℕ) → n ≡ each * sheets s → each * perParent s ≤ n
+  each-few n each a = rw (sheets-by n each a) (le-mul-of-pos-right (each * perParent s) (rules above .some))
+
   rows-family : rows s ≡ rows (parentScale s) * parts s
   unfolding rowsOf
   rows-family = ap rowsOf deep
@@ -78,9 +86,6 @@ module _ {s : ℕ} (h : IsScale s) (e : parentScale s ≡ 0 → ⊥) where
     pub deep-index : indexAt (made s) p ≡ partIndex (parts s) (indexAt (made (parentScale s)) (parentPlace (parts s) p)) (numberIn (parts s) p)
     unfolding indexAt
     deep-index = ap (λ (m : Made). indexAt m p) deep
-
-    pub deep-part : Part (parts s) (indexAt (made (parentScale s)) (parentPlace (parts s) p)) (numberIn (parts s) p)
-    deep-part = part (indexAt (made (parentScale s)) (parentPlace (parts s) p)) (numberIn (parts s) p) (index-few parent-on) (omega arith) (number-few (parts s) (parted .some) p)
 
   -- a place of the parent's scale has room for its parts
   pub part-place : (up : Place) (number : ℕ) → OnGrid (parentScale s) up → 1 ≤ number → number ≤ perParent s → PartPlace (parts s) up number
@@ -110,6 +115,82 @@ module _ {s : ℕ} (h : IsScale s) (e : parentScale s ≡ 0 → ⊥) where
 
     pub deep-room : PartPlace (parts s) (placeAt (made (parentScale s)) (i / perParent s)) (i % perParent s + 1)
     deep-room = part-place (placeAt (made (parentScale s)) (i / perParent s)) (i % perParent s + 1) parent-place-on (left-one (parts s) i (parted .some)) (left-few (parts s) i (parted .some))
+
+-- ---- the index of a place, parent by parent: `index` is what the parts so far make, and `each` how many sheets one at `up` has
+
+pub record Climb (s : ℕ) (p : Place) (t : Row) (at : Place) (index each : ℕ) : Type 0 where
+  pub up : ℕ
+  pub row : t ≡ codeRow up
+  pub from : OnGrid s p
+  pub on : OnGrid up at
+  pub all : sheets s ≡ each * sheets up
+  pub whole : indexAt (made s) p ≡ index + each * indexAt (made up) at
+
+pub climb-first : {s : ℕ} {p : Place} (t : Row) → t ≡ codeRow s → OnGrid s p → Climb s p t p 0 1
+climb-first {s} t e o = record { up = s; row = e; from = o; on = o; all = omega arith; whole = omega arith }
+
+module _ {s : ℕ} {p : Place} {t : Row} {at : Place} {index each : ℕ} (c : Climb s p t at index each) where
+  climb-few : index + each * indexAt (made (c .up)) at < 6_000_000
+  climb-few = omega (arith, c .whole, index-few (c .from), rules (c .from .scale) .few)
+
+  -- at the area
+  module _ (e : t .parent ≡ 0) where
+    top-parent : parentScale (c .up) ≡ 0
+    top-parent = rw (c .row) at e
+
+    pub climb-area : AreaPlace (t .columns) at
+    climb-area = rw (c .row) (top-few (c .on .scale) top-parent at (c .on))
+
+    module _ (top : ℕ) (f : top ≡ areaIndex (t .columns) at) where
+      at-top : top ≡ indexAt (made (c .up)) at
+      at-top = rw (c .row) at f ∙ sym (top-index (c .on .scale) top-parent at)
+
+      pub climb-small : index + each * top < 6_000_000
+      climb-small = rw at-top climb-few
+
+      pub climb-done : index + each * top ≡ indexAt (made s) p
+      climb-done = rw at-top (sym (c .whole))
+
+  -- below a parent
+  module _ (e : t .parent ≡ 0 → ⊥) where
+    deep-parent : parentScale (c .up) ≡ 0 → ⊥
+    deep-parent = rw (c .row) at e
+
+    pub climb-parted : Parted (t .parts)
+    climb-parted = rw (c .row) (parted (c .on .scale) deep-parent)
+
+    pub climb-up : codeRow (t .parent) .parent < t .parent
+    climb-up = rw (c .row) (rules (above (c .on .scale) deep-parent) .above)
+
+    -- by the parent's index and the number there
+    parts-whole : indexAt (made s) p ≡ index + each * (numberIn (parts (c .up)) at - 1) + each * perParent (c .up) * indexAt (made (parentScale (c .up))) (parentPlace (parts (c .up)) at)
+    parts-whole =
+        let k = perParent (c .up) in
+        let j = numberIn (parts (c .up)) at - 1 in
+        let h = indexAt (made (parentScale (c .up))) (parentPlace (parts (c .up)) at) in
+        let d : indexAt (made (c .up)) at ≡ h * k + j = deep-index (c .on .scale) deep-parent at (c .on) in
+        let w : indexAt (made s) p ≡ index + each * (h * k + j) = rw d at (c .whole) in
+        omega (arith, w, mul-add each (h * k) j, mul-comm h k, mul-assoc each k h)
+
+    pub climb-each : each * (t .parts * t .parts) ≤ 6_000_000
+    climb-each = rw (c .row) (le-trans (each-few (c .on .scale) deep-parent (sheets s) each (c .all)) (rules (c .from .scale) .few))
+
+    module _ (number : ℕ) (f : number ≡ numberIn (t .parts) at) where
+      number-is : number ≡ numberIn (parts (c .up)) at
+      number-is = rw (c .row) at f
+
+      pub climb-sum : index + each * (number - 1) < 6_000_000
+      climb-sum = rw number-is (omega (arith, parts-whole, index-few (c .from), rules (c .from .scale) .few))
+
+      pub climb-next : (r : Row) (q : Place) → r ≡ codeRow (t .parent) → q ≡ parentPlace (t .parts) at → Climb s p r q (index + each * (number - 1)) (each * (t .parts * t .parts))
+      climb-next r q g b = record {
+        up = parentScale (c .up);
+        row = rw (c .row) at g;
+        from = c .from;
+        on = rw (b, c .row) (parent-on (c .on .scale) deep-parent at (c .on));
+        all = rw (c .row) (sheets-by (c .on .scale) deep-parent (sheets s) each (c .all));
+        whole = rw (b, number-is, c .row) parts-whole;
+      }
 
 -- ---- a sheet, its parent and its children
 

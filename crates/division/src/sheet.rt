@@ -79,18 +79,26 @@ pub(crate) fn part_index(k: u32, up: u32, number: u32) -> u32
     up * (k * k) + (number - 1)
 }
 
-// The index of a place of a scale, by way of its parents, and back.
+// The index of a place of a scale, by way of its parents, and back. `index` is what the parts so far make, and `each` how many sheets of
+// the scale one of the scale in hand has.
 fn index_of(s: u32, p: Place) -> u32
     requires { ⌜ OnGrid s p ⌝ }
     ensures { λ r. ⌜ r ≡ indexAt (made s) p ⌝ }
 {
-    let t = Scale(s).row();
-    let parent = t.parent;
-    if parent == 0 {
-        return area_index(t.columns, p);
+    let mut t = Scale(s).row();
+    let mut at = p;
+    let mut index: u32 = 0;
+    let mut each: u32 = 1;
+    while t.parent != 0 {
+        let k = t.parts;
+        let j = number_in(k, at) - 1;
+        index += each * j;
+        each = each * (k * k);
+        at = parent_place(k, at);
+        t = Scale(t.parent).row();
     }
-    let up = index_of(parent, parent_place(t.parts, p));
-    part_index(t.parts, up, number_in(t.parts, p))
+    let top = area_index(t.columns, at);
+    index + each * top
 }
 
 fn place_in(s: u32, i: u32) -> Place

@@ -1,12 +1,13 @@
 -- The scale that a first number and a count of fields name has them, and a label is read by its numbers alone. Assumes nothing.
-use mathlib.Core.Path.{_≡_, refl}
+use mathlib.Core.Path.{_≡_, refl, sym, ap, _∙_}
 use mathlib.Core.Bool.{Bool, true, false, cond, _&&_}
 use mathlib.Core.List.{List, [], _∷_, List·Memᴰ, List·Memᴰ·head}
-use Prim.Native.Nat.{ℕ, _+_, _-_, _≤_}
+use Prim.Native.Nat.{ℕ, zero, suc, _+_, _-_, _<_}
+use native.Mathlib.Numerals.{sub-one}
 use native.Mathlib.Omega.{arith}
 use borrow.Author.Tests.{eqb-true}
-use lib.ListN.{length, getD, take, drop, replicate, length-drop, length-append}
-use lib.Seq.{take-at}
+use lib.ListN.{length, getD, take, drop, length-drop}
+use lib.Seq.{getD-take}
 use Rattle.refusal.specs.Paper.{Paper, refused, refuse_unless_, _>>_}
 use Rattle.division.specs.Words.{_=?_, from, keep}
 use Rattle.division.specs.Table.{isScale, scales, made, table, tableRow}
@@ -15,7 +16,7 @@ use Rattle.division.proofs.TestLaws.{both}
 use Rattle.division.proofs.TableLaws.{is-scale}
 use Rattle.division.proofs.MemberLaws.{from-has, keep-has}
 use Rattle.label.specs.Label.{markOf, countOf, scaleNamed, wellFormed, numbersIn, sheetNamed, readLabel}
-use Rattle.label.specs.Given.{packed, numbersOf, Fields}
+use Rattle.label.specs.Given.{numbersOf, Held, Fields}
 
 -- ---- the scale
 
@@ -67,10 +68,11 @@ read-numbers bytes = by (wellFormed bytes)
 pub read-none : (vs : List ℕ) → scaleFrom vs ≡ 0 → readNumbers vs ≡ refused 4 0
 read-none vs e = rw e
 
-module _ (vs : List ℕ) (n : scaleFrom vs ≡ 0 → ⊥) where
-  pub some-numbers : 1 ≤ length vs
-  some-numbers = omega (arith, named (getD vs 0 0) (length vs) n .count)
+pub read-empty : (vs : List ℕ) → length vs ≡ 0 → readNumbers vs ≡ refused 4 0
+read-empty [] e = read-none [] none-named
+read-empty (v ∷ vs) e = absurd (omega arith)
 
+module _ (vs : List ℕ) (n : scaleFrom vs ≡ 0 → ⊥) where
   pub fields-named : Fields (scaleFrom vs) (drop 1 vs)
   fields-named =
       let r = named (getD vs 0 0) (length vs) n in
@@ -81,13 +83,18 @@ module _ (vs : List ℕ) (n : scaleFrom vs ≡ 0 → ⊥) where
 
 -- ---- numbers as the code holds them
 
-pub first-packed : (vs : List ℕ) → getD (packed vs .values) 0 0 ≡ getD vs 0 0
-first-packed [] = refl
-first-packed (v ∷ vs) = refl
+take-none : (n : ℕ) → _≡_ {A = List ℕ} (take n []) []
+take-none zero = refl
+take-none (suc n) = refl
 
-pub others-packed : (vs : List ℕ) → take (length vs - 1) (drop 1 (packed vs .values)) ≡ drop 1 vs
-others-packed [] = refl
-others-packed (v ∷ vs) = take-at vs (replicate (8 - length (v ∷ vs)) 0) (length (v ∷ vs) - 1) (omega arith)
+drop-take : (n : ℕ) (l : List ℕ) → take (n - 1) (drop 1 l) ≡ drop 1 (take n l)
+drop-take zero l = refl
+drop-take (suc n) [] = take-none (suc n - 1)
+drop-take (suc n) (x ∷ l) = rw (sub-one (suc n))
 
-pub within-packed : (vs : List ℕ) → length vs ≤ length (packed vs .values)
-within-packed vs = omega (arith, length-append vs (replicate (8 - length vs) 0))
+module _ {vs values : List ℕ} {count : ℕ} (h : Held vs values count) where
+  pub first-held : 0 < count → getD values 0 0 ≡ getD vs 0 0
+  first-held l = sym (getD-take count values 0 0 l) ∙ ap (λ (l : List ℕ). getD l 0 0) (h .front)
+
+  pub others-held : take (count - 1) (drop 1 values) ≡ drop 1 vs
+  others-held = drop-take count values ∙ ap (λ (l : List ℕ). drop 1 l) (h .front)

@@ -1,23 +1,27 @@
 -- The index that fields name, once over how a scale is made. Assumes nothing.
-use mathlib.Core.Path.{_≡_, refl, ap, _∙_}
+use mathlib.Core.Path.{_≡_, refl, sym, ap, _∙_}
 use mathlib.Core.Bool.{Bool, true, false, cond, _&&_}
-use mathlib.Core.List.{List}
-use Prim.Native.Nat.{ℕ, _+_, _*_, _≤_, _<_}
-use native.Mathlib.Nat.{mul-pos}
+use mathlib.Core.List.{List, _∷_}
+use Prim.Native.Nat.{ℕ, _+_, _-_, _*_, _≤_, _<_}
+use native.Mathlib.Nat.{add-zero, mul-add, mul-comm, mul-assoc, mul-le-mul-left, le-trans}
+use native.Mathlib.Numerals.{add-one}
 use native.Mathlib.Omega.{arith}
 use lib.ListN.{length, getD, drop, length-drop}
+use lib.Seq.{drop-cons, getD-drop}
 use Rattle.refusal.specs.Paper.{Paper, answer, refused, refuse_unless_, _>>_}
 use Rattle.division.specs.Words.{between}
-use Rattle.division.specs.Table.{Made, ofScale, made, rows, columns, parentScale, parts, first}
-use Rattle.division.specs.Sheet.{indexAt}
+use Rattle.division.specs.declared.table.Row.{Row}
+use Rattle.division.specs.Table.{Made, ofScale, made, rows, columns, parentScale, parts, sheets, first, codeRow}
+use Rattle.division.specs.Sheet.{indexAt, partIndex}
+use Rattle.division.specs.Given.{IsScale}
 use Rattle.division.proofs.MadeLaws.{Sound, sheetsOf, index<}
 use Rattle.division.proofs.TableLaws.{rules}
-use Rattle.division.proofs.FamilyLaws.{top, deep, above, parted, part}
+use Rattle.division.proofs.FamilyLaws.{top, deep, above, parted, sheets-by, each-few, square-few}
 use Rattle.label.specs.declared.reading.Reckoned.{Reckoned}
 use Rattle.label.specs.declared.reading.Reckoned.the-variants.{At, Out}
 use Rattle.label.specs.Label.{countOf, inRange, placeFrom, sheetNamed}
-use Rattle.label.specs.Given.{Fields, reckon, reckonArea, reckonPart, PartFields}
-use Rattle.label.proofs.FieldLaws.{on-from, index-part}
+use Rattle.label.specs.Given.{Fields, reckon, reckonArea, reckonBelow, Below}
+use Rattle.label.proofs.FieldLaws.{on-from, index-part, between-in}
 
 -- what is reckoned is an index of the scale
 pub reckon-few : (m : Made) (fs : List ℕ) {i : ℕ} → Sound m → reckon m fs ≡ At i → i < sheetsOf m
@@ -27,6 +31,11 @@ reckon-few m fs {i} s e = by (inRange m fs) refl e
     by : (b : Bool) → inRange m fs ≡ b → cond b (At (indexAt m (placeFrom m fs))) Out ≡ At i → i < sheetsOf m
     by true t e = let q : indexAt m (placeFrom m fs) ≡ i = cc in omega (arith, index< m (placeFrom m fs) s (on-from m fs s t))
     by false t e = let z : _≡_ {A = ℕ} 0 1 = cc in absurd (omega arith)
+
+-- of a part of a parent that is reckoned
+abbrev reckonPart : ℕ → ℕ → Reckoned → Reckoned
+reckonPart k number (At up) = cond (between 1 (k * k) number) (At (partIndex k up number)) Out
+reckonPart k number Out = Out
 
 reckon-part : (z : ℕ) (m : Made) (k : ℕ) (fs : List ℕ) → Sound (ofScale z m k) → reckon (ofScale z m k) fs ≡ reckonPart k (getD fs 0 0) (reckon m (drop 1 fs))
 unfolding reckon inRange
@@ -65,12 +74,121 @@ module _ {s : ℕ} {fs : List ℕ} (h : Fields s fs) (e : parentScale s ≡ 0 �
   pub reckon-deep : reckon (made s) fs ≡ reckonPart (parts s) (getD fs 0 0) (reckon (made (parentScale s)) (drop 1 fs))
   reckon-deep = ap (λ (m : Made). reckon m fs) (deep (h .scale) e) ∙ reckon-part (parentScale s) (made (parentScale s)) (parts s) fs (parted (h .scale) e .some, rules (above (h .scale) e) .sound)
 
-  pub part-fields : PartFields (parts s) (reckon (made (parentScale s)) (drop 1 fs))
-  part-fields =
-      let k = parted (h .scale) e in
-      record {
-        few = k .few;
-        up = λ i r. part (h .scale) e i 1 (reckon-few (made (parentScale s)) (drop 1 fs) (rules (above (h .scale) e) .sound) r) (omega arith) (mul-pos (k .some) (k .some)) .few;
+-- ---- the index, parent by parent
+
+-- a number out of range leaves nothing, and one in range a part of what is above
+part-out : (k number : ℕ) (above : Reckoned) → between 1 (k * k) number ≡ false → reckonPart k number above ≡ Out
+part-out k number (At up) e = rw e
+part-out k number Out e = refl
+
+part-below : (k number index each : ℕ) (above : Reckoned) → between 1 (k * k) number ≡ true → reckonBelow index each (reckonPart k number above) ≡ reckonBelow (index + each * (number - 1)) (each * (k * k)) above
+part-below k number index each (At up) e =
+    let q : index + each * (up * (k * k) + (number - 1)) ≡ index + each * (number - 1) + each * (k * k) * up =
+    omega (arith, mul-add each (up * (k * k)) (number - 1), ap (λ (n : ℕ). each * n) (mul-comm up (k * k)), mul-assoc each (k * k) up) in
+    rw e (ap At q)
+part-below k number index each Out e = refl
+
+below-all : (above : Reckoned) → above ≡ reckonBelow 0 1 above
+below-all (At up) = ap At (omega arith)
+below-all Out = refl
+
+-- the fields before i are reckoned: they make `index` of the `each` sheets below one at `up`
+pub record Reckoning (s : ℕ) (fs : List ℕ) (t : Row) (i index each : ℕ) : Type 0 where
+  pub up : ℕ
+  pub row : t ≡ codeRow up
+  pub scale : IsScale s
+  pub fields : Fields up (drop i fs)
+  pub all : sheets s ≡ each * sheets up
+  pub less : index < each
+  pub rest : reckon (made s) fs ≡ reckonBelow index each (reckon (made up) (drop i fs))
+
+pub reckoning-first : {s : ℕ} {fs : List ℕ} (t : Row) → t ≡ codeRow s → Fields s fs → Reckoning s fs t 0 0 1
+reckoning-first {s} {fs} t e h = record {
+  up = s;
+  row = e;
+  scale = h .scale;
+  fields = h;
+  all = omega arith;
+  less = omega arith;
+  rest = below-all (reckon (made s) fs);
+}
+
+module _ {s : ℕ} {fs : List ℕ} {t : Row} {i index each : ℕ} (c : Reckoning s fs t i index each) where
+  -- at the area
+  module _ (e : t .parent ≡ 0) where
+    top-parent : parentScale (c .up) ≡ 0
+    top-parent = rw (c .row) at e
+
+    pub last-fields : i + 2 ≤ length fs
+    last-fields = omega (arith, two-fields (c .fields) top-parent, length-drop i fs)
+
+    pub area-few : t .rows * t .columns ≤ 6_000_000
+    area-few = rw (c .row) (rules (c .fields .scale) .few)
+
+    module _ (top : Reckoned) (f : top ≡ reckonArea (t .rows) (t .columns) (getD fs i 0) (getD fs (i + 1) 0)) where
+      at-top : top ≡ reckon (made (c .up)) (drop i fs)
+      at-top = rw (c .row) at f ∙ sym (reckon-top (c .fields) top-parent ∙ rw (getD-drop i fs 0 0, getD-drop i fs 1 0, add-zero i))
+
+      pub top-below : Below index each top
+      top-below = record { few = few }
+        where
+          few : (up : ℕ) → top ≡ At up → index + each * up < 6_000_000
+          few up g =
+              let l : up < sheets (c .up) = reckon-few (made (c .up)) (drop i fs) (rules (c .fields .scale) .sound) (sym at-top ∙ g) in
+              let m : each * (up + 1) ≤ each * sheets (c .up) = mul-le-mul-left each (omega arith) in
+              omega (arith, m, mul-add each up 1, c .all, c .less, rules (c .scale) .few)
+
+      pub reckoning-done : reckonBelow index each top ≡ reckon (made s) fs
+      reckoning-done = rw at-top (sym (c .rest))
+
+  -- below a parent
+  module _ (e : t .parent ≡ 0 → ⊥) where
+    deep-parent : parentScale (c .up) ≡ 0 → ⊥
+    deep-parent = rw (c .row) at e
+
+    pub next-field : i < length fs
+    next-field = omega (arith, a-field (c .fields) deep-parent, length-drop i fs)
+
+    pub parts-few : t .parts * t .parts ≤ 625
+    parts-few = rw (c .row) (square-few (parted (c .fields .scale) deep-parent))
+
+    pub each-small : each * (t .parts * t .parts) ≤ 6_000_000
+    each-small = rw (c .row) (le-trans (each-few (c .fields .scale) deep-parent (sheets s) each (c .all)) (rules (c .scale) .few))
+
+    pub higher : codeRow (t .parent) .parent < t .parent
+    higher = rw (c .row) (rules (above (c .fields .scale) deep-parent) .above)
+
+    here : drop i fs ≡ getD fs i 0 ∷ drop (i + 1) fs
+    here = drop-cons fs i 0 next-field ∙ rw (add-one i)
+
+    rest-here : reckon (made s) fs ≡ reckonBelow index each (reckonPart (parts (c .up)) (getD fs i 0) (reckon (made (parentScale (c .up))) (drop (i + 1) fs)))
+    rest-here =
+        let k = parts (c .up) in
+        let m = made (parentScale (c .up)) in
+        let e : reckonPart k (getD (drop i fs) 0 0) (reckon m (drop 1 (drop i fs))) ≡ reckonPart k (getD fs i 0) (reckon m (drop (i + 1) fs)) = rw here in
+        c .rest ∙ ap (reckonBelow index each) (reckon-deep (c .fields) deep-parent ∙ e)
+
+    pub reckoning-out : between 1 (t .parts * t .parts) (getD fs i 0) ≡ false → Out ≡ reckon (made s) fs
+    reckoning-out f = sym (rest-here ∙ ap (reckonBelow index each) (part-out (parts (c .up)) (getD fs i 0) (reckon (made (parentScale (c .up))) (drop (i + 1) fs)) (rw (c .row) at f)))
+
+    module _ (f : between 1 (t .parts * t .parts) (getD fs i 0) ≡ true) where
+      pub in-range : (1 ≤ getD fs i 0) × (getD fs i 0 ≤ t .parts * t .parts)
+      in-range = between-in _ _ _ f
+
+      pub sum-less : index + each * (getD fs i 0 - 1) < each * (t .parts * t .parts)
+      sum-less =
+          let m : each * (getD fs i 0 - 1 + 1) ≤ each * (t .parts * t .parts) = mul-le-mul-left each (omega (arith, in-range)) in
+          omega (arith, m, mul-add each (getD fs i 0 - 1) 1, c .less)
+
+      pub reckoning-next : (r : Row) → r ≡ codeRow (t .parent) → Reckoning s fs r (i + 1) (index + each * (getD fs i 0 - 1)) (each * (t .parts * t .parts))
+      reckoning-next r g = record {
+        up = parentScale (c .up);
+        row = rw (c .row) at g;
+        scale = c .scale;
+        fields = rw here at (fields-above (c .fields) deep-parent);
+        all = rw (c .row) (sheets-by (c .fields .scale) deep-parent (sheets s) each (c .all));
+        less = sum-less;
+        rest = rest-here ∙ rw (c .row) (part-below (parts (c .up)) (getD fs i 0) index each (reckon (made (parentScale (c .up))) (drop (i + 1) fs)) (rw (c .row) at f));
       }
 
 -- ---- the sheet

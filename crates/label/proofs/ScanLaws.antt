@@ -7,13 +7,12 @@ use native.Mathlib.Nat.{pow-le-pow-right}
 use native.Mathlib.Numerals.{add-one}
 use native.Mathlib.Omega.{arith}
 use borrow.Author.Tests.{le-leb, lt-leb, ne-eqb}
-use lib.ListN.{length, getD, drop, set, replicate, length-append, drop-of-length-le}
-use lib.Seq.{drop-cons, append-snoc, set-at}
+use lib.ListN.{length, getD, drop, set, replicate, length-append, length-replicate, drop-of-length-le}
+use lib.Seq.{drop-cons, append-snoc, set-at, take-at}
 use Rattle.division.specs.Words.{between}
-use Rattle.label.specs.declared.reading.Numbers.{Numbers}
 use Rattle.label.specs.Text.{every, onFirst, split, value}
 use Rattle.label.specs.Label.{isLabelByte, isField, wellFormed}
-use Rattle.label.specs.Given.{packed, numbersOf}
+use Rattle.label.specs.Given.{numbersOf, Held}
 use Rattle.label.proofs.ValueLaws.{value-snoc}
 use Rattle.label.proofs.SplitLaws.{split-last, split-piece}
 use Rattle.label.proofs.FieldLaws.{in-between}
@@ -111,9 +110,9 @@ pub record Scan (s values : List ℕ) (n : ℕ) (some : Bool) (cur i : ℕ) : Ty
   pub state : State some cur begun
   pub rest : numbersAfter done (begun ++ drop i s) ≡ numbersOf s
 
-pub begins : (s : List ℕ) → length s ≤ 16 → Scan s (replicate 8 0) 0 false 0 0
+pub begins : (s values : List ℕ) → length s ≤ 16 → values ≡ replicate 8 0 → Scan s values 0 false 0 0
 unfolding numbersOf wellFormed every split
-begins s h =
+begins s values h e =
     record {
       within = omega arith;
       short = h;
@@ -121,7 +120,7 @@ begins s h =
       small = omega arith;
       done = [];
       count = refl;
-      held = refl;
+      held = e;
       begun = [];
       digits = tt;
       state = refl;
@@ -131,6 +130,10 @@ begins s h =
     all : (s : List ℕ) → length s ≤ 16 → numbersAfter [] s ≡ numbersOf s
     all [] h = refl
     all (b ∷ s) h = rw (in-between 1 16 (length (b ∷ s)) (omega arith) h)
+
+-- no numbers are held anywhere
+pub held-none : {vs : List ℕ} (values : List ℕ) → [] ≡ vs → Held vs values 0
+held-none values e = record { counted = ap length e; within = omega arith; front = e }
 
 -- one number more is held
 held-on : {values : List ℕ} (done : List ℕ) (n v : ℕ) → n < 8 → length done ≡ n → values ≡ done ++ replicate (8 - n) 0 → set values n v ≡ (done ++ (v ∷ [])) ++ replicate (8 - (n + 1)) 0
@@ -150,6 +153,10 @@ module _ {s values : List ℕ} {n : ℕ} {some : Bool} {cur i : ℕ} (w : Scan s
 
   begun-room : some ≡ true → 2 * n + 1 ≤ i
   begun-room t = subst (λ (x : Bool). 2 * n + bit x ≤ i) t (w .room)
+
+  -- there are eight places
+  pub long : length values ≡ 8
+  long = ap length (w .held) ∙ length-append (w .done) (replicate (8 - n) 0) ∙ omega (arith, w .count, length-replicate {A = ℕ} (8 - n) 0, w .room, w .within, w .short)
 
   -- a place is left for the number of the open field
   pub place-left : some ≡ true → n < 8
@@ -237,10 +244,15 @@ module _ {s values : List ℕ} {n : ℕ} {some : Bool} {cur i : ℕ} (w : Scan s
     unfolding every split
     ends-empty t = rw (none-begun t) at last
 
-    pub ends : some ≡ true → _≡_ {A = Numbers} (record { count = n + 1; values = set values n cur }) (packed (numbersOf s))
+    pub ends : some ≡ true → Held (numbersOf s) (set values n cur) (n + 1)
     ends t =
         let a = is-begun t in
         let p = w .begun in
         let e : w .done ++ (cur ∷ []) ≡ numbersOf s = rw (a .1) (rw (formed-last p (w .digits), a .0, split-last 45 p (digits-free p (w .digits))) at last) in
         let l : length (w .done ++ (cur ∷ [])) ≡ n + 1 = omega (arith, length-append (w .done) (cur ∷ []), w .count) in
-        rw (← e, l, held-on (w .done) n cur (place-left t) (w .count) (w .held))
+        let f : set values n cur ≡ (w .done ++ (cur ∷ [])) ++ replicate (8 - (n + 1)) 0 = held-on (w .done) n cur (place-left t) (w .count) (w .held) in
+        record {
+          counted = sym l ∙ ap length e;
+          within = rw f (omega (arith, l, length-append (w .done ++ (cur ∷ [])) (replicate (8 - (n + 1)) 0)));
+          front = rw f (take-at (w .done ++ (cur ∷ [])) (replicate (8 - (n + 1)) 0) (n + 1) l) ∙ e;
+        }

@@ -72,8 +72,8 @@ module _ {t : Text} {s i : ℕ} (x : Room t s i) (e : parentScale s ≡ 0 → �
       record { room = omega (arith, x .room, deep-long); few = omega (arith, left-few (parts s) i (parted (x .indexed .scale) e .some)) }
 
   module _ {u : Text} (p : Appended t u (45 ∷ decimal (i % perParent s + 1))) where
-    pub deep-room : Room u (parentScale s) (i / perParent s)
-    deep-room = record { indexed = parent-indexed (x .indexed .scale) e i (x .indexed); room = omega (arith, x .room, deep-long, p .longer) }
+    pub deep-room : length (u .bytes) ≡ length (t .bytes) → Room u (parentScale s) (i / perParent s)
+    deep-room k = record { indexed = parent-indexed (x .indexed .scale) e i (x .indexed); room = omega (arith, x .room, deep-long, p .longer) }
 
     pub deep-spelt : {r : Text} → Appended u r (behind (indexFields (parentScale s) (i / perParent s))) → Appended t r (behind (indexFields s i))
     deep-spelt q = rw (deep-fields, behind-more (i % perParent s + 1)) (then p q)
@@ -81,12 +81,12 @@ module _ {t : Text} {s i : ℕ} (x : Room t s i) (e : parentScale s ≡ 0 → �
 -- ---- the label of a sheet: the first number into an empty text, and the fields behind it
 
 module _ (n : ℕ) (h : isSheet n ≡ true) {t : Text} (none : t .len ≡ 0) where
-  pub mark-room : Digits t (decimal (markOf (scaleOf n))) (markOf (scaleOf n))
-  mark-room = record { room = omega (arith, label-long n h, label-high n h); few = sizes (ranged n h .scale) .mark-few }
+  pub mark-room : length (t .bytes) ≡ 16 → Digits t (decimal (markOf (scaleOf n))) (markOf (scaleOf n))
+  mark-room k = record { room = omega (arith, label-long n h, label-high n h); few = sizes (ranged n h .scale) .mark-few }
 
   module _ {u : Text} (p : Appended t u (decimal (markOf (scaleOf n)))) where
-    pub fields-room : Room u (scaleOf n) (indexOf n)
-    fields-room = record { indexed = indexed n h; room = omega (arith, p .longer, label-long n h, label-high n h) }
+    pub fields-room : length (u .bytes) ≡ 16 → Room u (scaleOf n) (indexOf n)
+    fields-room k = record { indexed = indexed n h; room = omega (arith, p .longer, label-long n h, label-high n h) }
 
     pub sheet-spelt : {r : Text} → Appended u r (behind (indexFields (scaleOf n) (indexOf n))) → Spelt r (labelOf n)
     sheet-spelt q = record { long = omega (arith, p .longer, q .longer, label-long n h); same = then p q .bytes ∙ rw (none, label-is n) }

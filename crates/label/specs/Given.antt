@@ -4,12 +4,11 @@ use Prim.Native.Char.{code}
 use mathlib.Core.Path.{_≡_}
 use mathlib.Core.Bool.{cond, _&&_}
 use mathlib.Core.List.{List, [], _∷_, _++_, map, flatMap}
-use lib.ListN.{length, take, replicate}
+use lib.ListN.{length, take}
 use Rattle.division.specs.Words.{between}
 use Rattle.division.specs.Table.{Made, made}
-use Rattle.division.specs.Sheet.{indexAt, partIndex, placeAt}
+use Rattle.division.specs.Sheet.{indexAt, placeAt}
 use Rattle.division.specs.Given.{IsScale, Indexed}
-use Rattle.label.specs.declared.reading.Numbers.{Numbers}
 use Rattle.label.specs.declared.reading.Reckoned.{Reckoned}
 use Rattle.label.specs.declared.reading.Reckoned.the-variants.{At, Out}
 use Rattle.label.specs.declared.writing.Text.{Text}
@@ -18,9 +17,11 @@ use Rattle.label.specs.Label.{wellFormed, numbersIn, inRange, placeFrom,
 
 -- ---- reading
 
--- numbers as the code holds them: how many, and zeros behind them
-abbrev pub packed : List ℕ → Numbers
-packed vs = record { count = length vs; values = vs ++ replicate (8 - length vs) 0 }
+-- numbers as the code holds them: so many, at the front of the places
+pub record Held (vs values : List ℕ) (count : ℕ) : Type 0 where
+  pub counted : count ≡ length vs
+  pub within : count ≤ length values
+  pub front : take count values ≡ vs
 
 -- the numbers of a label that is well formed, and none of any other
 unfoldable pub numbersOf : List ℕ → List ℕ
@@ -40,19 +41,20 @@ abbrev pub reckonArea : ℕ → ℕ → ℕ → ℕ → Reckoned
 reckonArea rows columns row column =
     cond (between 101 (100 + rows) row && between 1 columns column) (At ((row - 101) * columns + (column - 1))) Out
 
--- of a part of a parent that is reckoned
-abbrev pub reckonPart : ℕ → ℕ → Reckoned → Reckoned
-reckonPart k number (At up) = cond (between 1 (k * k) number) (At (partIndex k up number)) Out
-reckonPart k number Out = Out
+-- of those below one that is reckoned, with `each` below one
+abbrev pub reckonBelow : ℕ → ℕ → Reckoned → Reckoned
+reckonBelow index each (At up) = At (index + each * up)
+reckonBelow index each Out = Out
 
--- parts in k × k of a parent that is reckoned have few indexes
-pub record PartFields (k : ℕ) (above : Reckoned) : Type 0 where
-  pub few : k ≤ 25
-  pub up : (up : ℕ) → above ≡ At up → (up + 1) * (k * k) ≤ 6_000_000
+pub record Below (index each : ℕ) (above : Reckoned) : Type 0 where
+  pub few : (up : ℕ) → above ≡ At up → index + each * up < 6_000_000
 
 -- ---- writing
 
--- the bytes that a text holds, and a text with more bytes behind it
+-- a text in so many places from the front, the bytes that it holds, and a text with more bytes behind it
+abbrev pub text : List ℕ → ℕ → Text
+text bytes len = record { bytes = bytes; len = len }
+
 abbrev pub bytesOf : Text → List ℕ
 bytesOf t = take (t .len) (t .bytes)
 
@@ -67,7 +69,7 @@ pub record Spelt (t : Text) (bytes : List ℕ) : Type 0 where
 
 -- room for more bytes, in which stands a number of at most three digits
 pub record Digits (t : Text) (more : List ℕ) (v : ℕ) : Type 0 where
-  pub room : t .len + length more ≤ 16
+  pub room : t .len + length more ≤ length (t .bytes)
   pub few : v < 1_000
 
 -- fields, each behind a hyphen
@@ -82,7 +84,7 @@ pub record AreaRoom (t : Text) (c i : ℕ) : Type 0 where
   pub some : 0 < c
   pub few-row : 101 + i / c < 1_000
   pub few-column : 1 + i % c < 1_000
-  pub room : t .len + length (behind (areaFields c i)) ≤ 16
+  pub room : t .len + length (behind (areaFields c i)) ≤ length (t .bytes)
 
 -- the fields of an index of a scale, and room for them
 abbrev pub indexFields : ℕ → ℕ → List ℕ
@@ -90,4 +92,4 @@ indexFields s i = fieldsOf (made s) (placeAt (made s) i)
 
 pub record Room (t : Text) (s i : ℕ) : Type 0 where
   pub indexed : Indexed s i
-  pub room : t .len + length (behind (indexFields s i)) ≤ 16
+  pub room : t .len + length (behind (indexFields s i)) ≤ length (t .bytes)

@@ -4,29 +4,12 @@ use division::table::Scale;
 use refusal::Refusal;
 ghost use mathlib.Core.Path.{_≡_};
 ghost use Prim.Native.Nat.{_*_, _≤_};
-ghost use mathlib.Core.List.{[]};
-ghost use lib.ListN.{length};
+ghost use lib.ListN.{length, replicate};
 ghost use Rattle.division.specs.Words.{between};
 ghost use Rattle.division.specs.Table.{made};
 ghost use Rattle.division.specs.Answers.{sheetPaper};
 ghost use Rattle.label.specs.Label.{scaleNamed, sheetNamed, readLabel};
-ghost use Rattle.label.specs.Given.{packed, numbersOf, reckon, Fields, reckonArea, reckonPart, PartFields};
-
-// The numbers of a label's fields, the first number first; no number of a label that is not well formed. 16 bytes hold at most
-// eight fields, and a field at most 16 digits.
-pub struct Numbers {
-    pub count: usize,
-    pub values: [u64; 8],
-}
-
-fn none() -> Numbers
-    ensures { λ r. ⌜ r ≡ packed [] ⌝ }
-{
-    Numbers {
-        count: 0,
-        values: [0; 8],
-    }
-}
+ghost use Rattle.label.specs.Given.{numbersOf, Held, reckon, Fields, reckonArea, reckonBelow, Below};
 
 fn wide(b: u8) -> u64
     ensures { λ r. ⌜ r ≡ b ⌝ }
@@ -34,12 +17,14 @@ fn wide(b: u8) -> u64
     b as u64
 }
 
-// One pass over the bytes. A field is open from its first digit, which is not a zero with a digit behind it, to its hyphen.
-fn numbers_in(bytes: &[u8]) -> Numbers
+// The numbers of a label's fields, the first number first, laid into eight places: how many there are, and none of a label that is not
+// well formed. 16 bytes hold at most eight fields, and a field at most 16 digits. One pass over the bytes. A field is open from its first
+// digit, which is not a zero with a digit behind it, to its hyphen.
+fn numbers_in(bytes: &[u8], values: &mut [u64]) -> usize
     requires { ⌜ length (now bytes) ≤ 16 ⌝ }
-    ensures { λ r. ⌜ r ≡ packed (numbersOf (now (bytes .entry))) ⌝ }
+    requires { ⌜ now values ≡ replicate 8 0 ⌝ }
+    ensures { λ r. ⌜ Held (numbersOf (now (bytes .entry))) (now (values .exit)) r ⌝ }
 {
-    let mut values = [0u64; 8];
     let mut n: usize = 0;
     let mut some = false;
     let mut cur: u64 = 0;
@@ -48,7 +33,7 @@ fn numbers_in(bytes: &[u8]) -> Numbers
         let b = bytes[i];
         if b == b'-' {
             if !some {
-                return none();
+                return 0;
             }
             values[n] = cur;
             n += 1;
@@ -56,15 +41,15 @@ fn numbers_in(bytes: &[u8]) -> Numbers
             cur = 0;
         } else {
             if b < b'0' {
-                return none();
+                return 0;
             }
             if b'9' < b {
-                return none();
+                return 0;
             }
             let d = wide(b - b'0');
             if some {
                 if cur == 0 {
-                    return none();
+                    return 0;
                 }
                 cur = cur * 10 + d;
             } else {
@@ -75,14 +60,10 @@ fn numbers_in(bytes: &[u8]) -> Numbers
         i += 1;
     }
     if !some {
-        return none();
+        return 0;
     }
     values[n] = cur;
-    let count = n + 1;
-    Numbers {
-        count: count,
-        values: values,
-    }
+    n + 1
 }
 
 // The scale that a first number and a count of fields name, 0 for none.
@@ -133,21 +114,39 @@ pub enum Reckoned {
     Out,
 }
 
-// The index that the fields behind the first number name at a scale, by way of its parents.
+// Is a number that of one of so many parts?
+fn is_part(parts: u32, number: u64) -> bool
+    ensures { λ r. ⌜ r ≡ between 1 parts number ⌝ }
+{
+    (1 <= number) & (number <= parts as u64)
+}
+
+// The index that the fields behind the first number name at a scale, by way of its parents. `index` is what the numbers so far make, and
+// `each` how many sheets of the scale one of the scale in hand has.
 fn index_from(s: u32, fields: &[u64]) -> Reckoned
     requires { ⌜ Fields s (now fields) ⌝ }
     ensures { λ r. ⌜ r ≡ reckon (made s) (now (fields .entry)) ⌝ }
 {
-    let t = Scale(s).row();
-    let parent = t.parent;
-    if parent == 0 {
-        let row = fields[0];
-        let column = fields[1];
-        return area_index(t.rows, t.columns, row, column);
+    let mut t = Scale(s).row();
+    let mut i: usize = 0;
+    let mut index: u32 = 0;
+    let mut each: u32 = 1;
+    while t.parent != 0 {
+        let number = fields[i];
+        let parts = t.parts * t.parts;
+        if !is_part(parts, number) {
+            return Reckoned::Out;
+        }
+        let j = (number - 1) as u32;
+        index += each * j;
+        each = each * parts;
+        i += 1;
+        t = Scale(t.parent).row();
     }
-    let number = fields[0];
-    let above = index_from(parent, &fields[1..]);
-    part_index(t.parts, number, above)
+    let row = fields[i];
+    let column = fields[i + 1];
+    let top = area_index(t.rows, t.columns, row, column);
+    index_below(index, each, top)
 }
 
 fn area_index(rows: u32, columns: u32, row: u64, column: u64) -> Reckoned
@@ -164,21 +163,14 @@ fn area_index(rows: u32, columns: u32, row: u64, column: u64) -> Reckoned
     Reckoned::At(up * columns + left)
 }
 
-fn part_index(k: u32, number: u64, above: Reckoned) -> Reckoned
-    requires { ⌜ PartFields k above ⌝ }
-    ensures { λ r. ⌜ r ≡ reckonPart k number above ⌝ }
+// The index `index` of those below one that is reckoned, with `each` below one.
+fn index_below(index: u32, each: u32, above: Reckoned) -> Reckoned
+    requires { ⌜ Below index each above ⌝ }
+    ensures { λ r. ⌜ r ≡ reckonBelow index each above ⌝ }
 {
     match above {
         Reckoned::Out => Reckoned::Out,
-        Reckoned::At(up) => {
-            let each = k * k;
-            let good = (1 <= number) & (number <= each as u64);
-            if !good {
-                return Reckoned::Out;
-            }
-            let j = (number - 1) as u32;
-            Reckoned::At(up * each + j)
-        }
+        Reckoned::At(up) => Reckoned::At(index + each * up),
     }
 }
 
@@ -195,9 +187,11 @@ pub fn read_label(bytes: &[u8]) -> Found
     if !is_length(bytes.len()) {
         return Found::Refused(Refusal::LabelForm);
     }
-    let numbers = numbers_in(bytes);
-    let values = numbers.values;
-    let count = numbers.count;
+    let mut values = [0u64; 8];
+    let count = numbers_in(bytes, &mut values);
+    if count == 0 {
+        return Found::Refused(Refusal::LabelForm);
+    }
     let s = scale_named(values[0], count);
     if s == 0 {
         return Found::Refused(Refusal::LabelForm);

@@ -1,4 +1,5 @@
 // Sheet to label.
+use division::sheet::is_sheet;
 use division::table::Scale;
 use refusal::Laid;
 use refusal::Refusal;
@@ -13,77 +14,76 @@ ghost use Rattle.division.specs.Sheet.{isSheet};
 ghost use Rattle.division.specs.Given.{IsScale};
 ghost use Rattle.label.specs.Text.{decimal};
 ghost use Rattle.label.specs.Label.{markOf, labelOf, writeLabel, labelLength};
-ghost use Rattle.label.specs.Given.{bytesOf, Appended, Spelt, Digits, behind, areaFields, AreaRoom, indexFields, Room};
+ghost use Rattle.label.specs.Given.{text, bytesOf, Appended, Spelt, Digits, behind, areaFields, AreaRoom, indexFields, Room};
 
-// A label being written: the longest has 16 bytes.
+// A label: the longest has 16 bytes.
 pub struct Text {
     pub bytes: [u8; 16],
     pub len: usize,
 }
 
-// A byte more.
-fn with_byte(t: Text, b: u8) -> Text
-    requires { ⌜ t .len < 16 ⌝ }
-    ensures { λ r. ⌜ Appended t r (b ∷ []) ⌝ }
+// Each of the functions that put something into the bytes of a text gives the place behind it.
+fn put_byte(b: u8, out: &mut [u8], at: usize) -> usize
+    requires { ⌜ at < length (now out) ⌝ }
+    ensures { λ r. ⌜ Appended (text (now (out .entry)) at) (text (now (out .exit)) r) (b ∷ []) ⌝ }
 {
-    let mut r = t;
-    let at = t.len;
-    r.bytes[at] = b;
-    r.len = at + 1;
-    r
+    out[at] = b;
+    at + 1
 }
 
-// A number more, of at most three digits.
-fn with_number(t: Text, v: u32) -> Text
-    requires { ⌜ Digits t (decimal v) v ⌝ }
-    ensures { λ r. ⌜ Appended t r (decimal v) ⌝ }
+// A number of at most three digits.
+fn put_number(v: u32, out: &mut [u8], at: usize) -> usize
+    requires { ⌜ Digits (text (now out) at) (decimal v) v ⌝ }
+    ensures { λ r. ⌜ Appended (text (now (out .entry)) at) (text (now (out .exit)) r) (decimal v) ⌝ }
 {
     let ones = 48 + (v % 10) as u8;
     if v < 10 {
-        return with_byte(t, ones);
+        return put_byte(ones, out, at);
     }
     let tens = 48 + (v / 10 % 10) as u8;
     if v < 100 {
-        let u = with_byte(t, tens);
-        return with_byte(u, ones);
+        let a = put_byte(tens, out, at);
+        return put_byte(ones, out, a);
     }
     let hundreds = 48 + (v / 100) as u8;
-    let u = with_byte(t, hundreds);
-    let w = with_byte(u, tens);
-    with_byte(w, ones)
+    let a = put_byte(hundreds, out, at);
+    let b = put_byte(tens, out, a);
+    put_byte(ones, out, b)
 }
 
 // A field behind a hyphen.
-fn with_field(t: Text, v: u32) -> Text
-    requires { ⌜ Digits t (45 ∷ decimal v) v ⌝ }
-    ensures { λ r. ⌜ Appended t r (45 ∷ decimal v) ⌝ }
+fn put_field(v: u32, out: &mut [u8], at: usize) -> usize
+    requires { ⌜ Digits (text (now out) at) (45 ∷ decimal v) v ⌝ }
+    ensures { λ r. ⌜ Appended (text (now (out .entry)) at) (text (now (out .exit)) r) (45 ∷ decimal v) ⌝ }
 {
-    with_number(with_byte(t, b'-'), v)
+    let a = put_byte(b'-', out, at);
+    put_number(v, out, a)
 }
 
 // Row and column of an index of the area in columns.
-fn with_area(t: Text, columns: u32, i: u32) -> Text
-    requires { ⌜ AreaRoom t columns i ⌝ }
-    ensures { λ r. ⌜ Appended t r (behind (areaFields columns i)) ⌝ }
+fn put_area(columns: u32, i: u32, out: &mut [u8], at: usize) -> usize
+    requires { ⌜ AreaRoom (text (now out) at) columns i ⌝ }
+    ensures { λ r. ⌜ Appended (text (now (out .entry)) at) (text (now (out .exit)) r) (behind (areaFields columns i)) ⌝ }
 {
     let row = 101 + i / columns;
     let column = 1 + i % columns;
-    with_field(with_field(t, row), column)
+    let a = put_field(row, out, at);
+    put_field(column, out, a)
 }
 
 // The fields of a sheet behind the first number, by its index in its scale and by way of its parents.
-fn with_fields(t: Text, s: u32, i: u32) -> Text
-    requires { ⌜ Room t s i ⌝ }
-    ensures { λ r. ⌜ Appended t r (behind (indexFields s i)) ⌝ }
+fn put_fields(s: u32, i: u32, out: &mut [u8], at: usize) -> usize
+    requires { ⌜ Room (text (now out) at) s i ⌝ }
+    ensures { λ r. ⌜ Appended (text (now (out .entry)) at) (text (now (out .exit)) r) (behind (indexFields s i)) ⌝ }
 {
     let row = Scale(s).row();
     let parent = row.parent;
     if parent == 0 {
-        return with_area(t, row.columns, i);
+        return put_area(row.columns, i, out, at);
     }
     let each = row.parts * row.parts;
-    let u = with_field(t, i % each + 1);
-    with_fields(u, parent, i / each)
+    let a = put_field(i % each + 1, out, at);
+    put_fields(parent, i / each, out, a)
 }
 
 // The first number of each scale's labels, at the scale's number; there is no scale 0.
@@ -104,17 +104,13 @@ fn text_of(sheet: u32) -> Text
 {
     let s = Scale::of(sheet).0;
     let first = Scale(s).row().first;
-    let empty = Text {
-        bytes: [0; 16],
-        len: 0,
-    };
-    with_fields(with_number(empty, mark_of(s)), s, sheet - first)
-}
-
-fn is_sheet(n: u32) -> bool
-    ensures { λ r. ⌜ r ≡ isSheet n ⌝ }
-{
-    n <= Scale::LAST_SHEET
+    let mut bytes = [0u8; 16];
+    let a = put_number(mark_of(s), &mut bytes, 0);
+    let len = put_fields(s, sheet - first, &mut bytes, a);
+    Text {
+        bytes: bytes,
+        len: len,
+    }
 }
 
 // How many bytes a sheet's label has.

@@ -21,28 +21,40 @@ row-requires c κs = search needs
 mark-of-requires : tie.Need-mark-of-requires
 mark-of-requires c κs = let a = c .before .before in rw (found (c .before)) (ranged (a .args .sheet) (a .pre) .scale)
 
-with-number-requires : tie.Need-with-number-requires
-with-number-requires c κs =
-    let a = c .before .before .before in
-    rw (c .mark-of .ensures, found (c .before .before)) (mark-room (a .args .sheet) (a .pre) refl)
+slice-aggregate-put-number : tie.Need-slice-aggregate-put-number
+slice-aggregate-put-number c = search needs
 
-sub-with-fields : tie.Need-sub-with-fields
-sub-with-fields c =
-    let a = c .before .before .before .before in
-    rw (c .before .before .row .ensures, found (c .before .before .before)) (ranged (a .args .sheet) (a .pre) .low)
+put-number-requires : tie.Need-put-number-requires
+put-number-requires c κs =
+    let m = c .before in
+    let a = m .before .before .before in
+    rw (m .mark-of .ensures, found (m .before .before)) (mark-room (a .args .sheet) (a .pre) refl refl)
 
-with-fields-requires : tie.Need-with-fields-requires
-with-fields-requires c κs =
-    let a = c .before .before .before .before in
-    let f = found (c .before .before .before) in
-    rw (c .before .before .row .ensures, f) (fields-room (a .args .sheet) (a .pre) refl (rw (c .before .mark-of .ensures, f) at (c .with-number .ensures)))
+sub-put-fields : tie.Need-sub-put-fields
+sub-put-fields c =
+    let m = c .before .before .before in
+    let a = m .before .before .before in
+    rw (m .before .row .ensures, found (m .before .before)) (ranged (a .args .sheet) (a .pre) .low)
+
+slice-aggregate-put-fields : tie.Need-slice-aggregate-put-fields
+slice-aggregate-put-fields c = search needs
+
+put-fields-requires : tie.Need-put-fields-requires
+put-fields-requires c κs =
+    let n = c .before .before in
+    let m = n .before .before in
+    let a = m .before .before .before in
+    let f = found (m .before .before) in
+    rw (m .before .row .ensures, f) (fields-room (a .args .sheet) (a .pre) refl (rw (m .mark-of .ensures, f) at (n .put-number .ensures)) (n .put-number .kept .1 .0))
 
 returns : tie.Need-returns
 returns c =
-    let a = c .before .before .before .before .before in
-    let f = found (c .before .before .before .before) in
-    sheet-spelt (a .args .sheet) (a .pre) refl (rw (c .before .before .mark-of .ensures, f) at (c .before .with-number .ensures))
-    (rw (c .before .before .before .row .ensures, f) at (c .with-fields .ensures))
+    let n = c .before .before .before .before in
+    let m = n .before .before in
+    let a = m .before .before .before in
+    let f = found (m .before .before) in
+    sheet-spelt (a .args .sheet) (a .pre) refl (rw (m .mark-of .ensures, f) at (n .put-number .ensures))
+    (rw (m .before .row .ensures, f) at (c .before .put-fields .ensures))
 
 pub text-of-spec : {M : Type 1} → statement M
 text-of-spec =
@@ -51,7 +63,9 @@ text-of-spec =
     of-requires
     row-requires
     mark-of-requires
-    with-number-requires
-    sub-with-fields
-    with-fields-requires
+    slice-aggregate-put-number
+    put-number-requires
+    sub-put-fields
+    slice-aggregate-put-fields
+    put-fields-requires
     returns)

@@ -1,0 +1,281 @@
+//! The library's operations beside the same ones in Rust: each asked the same questions in turn, the least time of so many runs.
+//!
+//! Every question is first put to both, and the answers must agree. Both are called, neither is set into the loop that asks. A line of
+//! output has the operation, our nanoseconds for a question and Rust's, with tabs between.
+//! Questions come from one seed, so every run asks the same. Arguments: the number of runs; then, to count instructions, the beginning of
+//! an operation's name and `ours` or `rust`, which alone is run then.
+use std::hint::black_box;
+use std::time::Instant;
+
+mod sheets;
+use sheets::{LAST_SHEET, LONGEST_LABEL, MOST_SHEETS, SCALES};
+
+const SEED: u64 = 1;
+const LABELS: usize = 65_536;
+const POINTS: usize = 65_536;
+const LARGE_SETS: usize = 16;
+const SMALL_SETS: usize = 4_096;
+/// The bytes of the longest list: two for its count, and four for each sheet.
+const LONGEST_LIST: usize = 2 + 4 * MOST_SHEETS;
+
+extern "C" {
+    fn qubathimi_read_label(label: *const u8, length: usize, value: &mut u64) -> u32;
+    fn qubathimi_write_label(sheet: u32, room: *mut u8, length: usize, value: &mut u64) -> u32;
+    fn qubathimi_sheet_at(scale: u32, e: i64, n: i64, value: &mut u64) -> u32;
+    fn qubathimi_write_list(sheets: *const u32, count: usize, room: *mut u8, length: usize, value: &mut u64) -> u32;
+    fn qubathimi_read_list(list: *const u8, length: usize, room: *mut u32, room_length: usize, placed: &mut u64, value: &mut u64) -> u32;
+}
+
+// ---- the questions
+
+/// The generator of compare/catalogue.py.
+struct Numbers(u64);
+
+impl Numbers {
+    fn draw(&mut self, low: u64, high: u64) -> u64 {
+        self.0 = self.0.wrapping_mul(6_364_136_223_846_793_005).wrapping_add(1_442_695_040_888_963_407);
+        low + (self.0 >> 33) % (high - low + 1)
+    }
+}
+
+/// A sheet of any of the nine scales, each as likely as the others.
+fn any_sheet(numbers: &mut Numbers) -> u32 {
+    let scale = numbers.draw(0, 8) as usize;
+    let end = SCALES.get(scale + 1).map_or(LAST_SHEET + 1, |next| next.first);
+    numbers.draw(SCALES[scale].first as u64, end as u64 - 1) as u32
+}
+
+/// A label with a slip in it; it may be a good one still.
+fn worse(mut label: Vec<u8>, numbers: &mut Numbers) -> Vec<u8> {
+    let at = numbers.draw(0, label.len() as u64 - 1) as usize;
+    match numbers.draw(0, 4) {
+        0 => drop(label.remove(at)),
+        1 => label.insert(at, label[at]),
+        2 => label[at] = numbers.draw(32, 126) as u8,
+        3 => label.insert(at, b'0'),
+        _ => label.push(b'-'),
+    }
+    label
+}
+
+/// Nine in ten are good.
+fn labels(numbers: &mut Numbers) -> Vec<Vec<u8>> {
+    let any_label = |_| {
+        let mut room = [0; LONGEST_LABEL];
+        let length = sheets::write_label(any_sheet(numbers), &mut room).unwrap();
+        let label = room[..length].to_vec();
+        if numbers.draw(0, 9) == 0 { worse(label, numbers) } else { label }
+    };
+    (0..LABELS).map(any_label).collect()
+}
+
+/// Scale, east and north of points all over the area.
+fn points(numbers: &mut Numbers) -> Vec<(u32, i64, i64)> {
+    let mut any_point = || {
+        let scale = numbers.draw(1, 9) as u32;
+        (scale, numbers.draw(200_000_000, 799_999_999) as i64, 5_170_000_000 - numbers.draw(0, 599_999_999) as i64)
+    };
+    (0..POINTS).map(|_| any_point()).collect()
+}
+
+/// As many sheets as a list may have, in three steps of size: most follow closely, some lie further on, a few far.
+fn large_set(numbers: &mut Numbers) -> Vec<u32> {
+    let mut next = numbers.draw(0, 1_000) as u32;
+    let mut set = Vec::new();
+    for left in (0..MOST_SHEETS as u32).rev() {
+        set.push(next);
+        let gap = match numbers.draw(0, 99) {
+            0..=59 => numbers.draw(0, 127),
+            60..=97 => numbers.draw(128, 3_000),
+            _ => numbers.draw(16_384, 40_000),
+        };
+        next = (next + 1 + gap as u32).min(LAST_SHEET + 1 - left);
+    }
+    set
+}
+
+/// At most 16 sheets of any scale.
+fn small_set(numbers: &mut Numbers) -> Vec<u32> {
+    let mut set: Vec<u32> = (0..numbers.draw(0, 16)).map(|_| any_sheet(numbers)).collect();
+    set.sort_unstable();
+    set.dedup();
+    set
+}
+
+// ---- the same call of both: a status, and the value with it
+
+#[inline(never)]
+fn rust_read_label(label: &[u8]) -> (u32, u64) {
+    match sheets::read_label::<false>(label) {
+        Ok(sheet) => (0, sheet.number as u64),
+        Err(why) => (why, 0),
+    }
+}
+
+fn our_read_label(label: &[u8]) -> (u32, u64) {
+    let mut value = 0;
+    let status = unsafe { qubathimi_read_label(label.as_ptr(), label.len(), &mut value) };
+    (status, value)
+}
+
+fn told(answer: Result<usize, (u32, usize)>) -> (u32, u64) {
+    match answer {
+        Ok(value) => (0, value as u64),
+        Err((why, room)) => (why, room as u64),
+    }
+}
+
+#[inline(never)]
+fn rust_write_label(sheet: u32, room: &mut [u8]) -> (u32, u64) {
+    told(sheets::write_label(sheet, room))
+}
+
+fn our_write_label(sheet: u32, room: &mut [u8]) -> (u32, u64) {
+    let mut value = 0;
+    let status = unsafe { qubathimi_write_label(sheet, room.as_mut_ptr(), room.len(), &mut value) };
+    (status, value)
+}
+
+#[inline(never)]
+fn rust_sheet_at(&(scale, e, n): &(u32, i64, i64)) -> (u32, u64) {
+    match sheets::sheet_at(scale, e, n) {
+        Ok(sheet) => (0, sheet as u64),
+        Err(why) => (why, 0),
+    }
+}
+
+fn our_sheet_at(&(scale, e, n): &(u32, i64, i64)) -> (u32, u64) {
+    let mut value = 0;
+    let status = unsafe { qubathimi_sheet_at(scale, e, n, &mut value) };
+    (status, value)
+}
+
+#[inline(never)]
+fn rust_write_list(set: &[u32], room: &mut [u8]) -> (u32, u64) {
+    told(sheets::write_list(set, room))
+}
+
+fn our_write_list(set: &[u32], room: &mut [u8]) -> (u32, u64) {
+    let mut value = 0;
+    let status = unsafe { qubathimi_write_list(set.as_ptr(), set.len(), room.as_mut_ptr(), room.len(), &mut value) };
+    (status, value)
+}
+
+#[inline(never)]
+fn rust_read_list(list: &[u8], room: &mut [u32]) -> (u32, u64) {
+    match sheets::read_list(list, room) {
+        (Ok(()), placed) => (0, placed as u64),
+        (Err((why, _)), placed) => (why, placed as u64),
+    }
+}
+
+fn our_read_list(list: &[u8], room: &mut [u32]) -> (u32, u64) {
+    let (mut placed, mut value) = (0, 0);
+    let status = unsafe { qubathimi_read_list(list.as_ptr(), list.len(), room.as_mut_ptr(), room.len(), &mut placed, &mut value) };
+    (status, placed)
+}
+
+// ---- the race
+
+/// Asks both every question, and stops at the first that they answer differently. Lent room is compared whole.
+fn agree<Q: std::fmt::Debug, T: Copy + Default + PartialEq>(
+    what: &str,
+    questions: &[Q],
+    length: usize,
+    ours: impl Fn(&Q, &mut [T]) -> (u32, u64),
+    rust: impl Fn(&Q, &mut [T]) -> (u32, u64),
+) {
+    let (mut our_room, mut rust_room) = (vec![T::default(); length], vec![T::default(); length]);
+    for question in questions {
+        let (a, b) = (ours(question, &mut our_room), rust(question, &mut rust_room));
+        if a != b || our_room != rust_room {
+            eprintln!("{what}: {question:?}: ours {a:?}, Rust {b:?}");
+            std::process::exit(1);
+        }
+    }
+}
+
+fn time<Q, T>(questions: &[Q], times: usize, room: &mut [T], ask: impl Fn(&Q, &mut [T]) -> (u32, u64)) -> f64 {
+    let start = Instant::now();
+    for _ in 0..times {
+        for question in questions {
+            black_box(ask(black_box(question), room));
+        }
+    }
+    start.elapsed().as_secs_f64() * 1e9 / (questions.len() * times) as f64
+}
+
+struct Race {
+    runs: usize,
+    /// The beginning of an operation's name, and the side that alone is run.
+    only: Option<(String, String)>,
+}
+
+impl Race {
+    /// Prints the line of an operation. A run asks all questions so many times, and takes a few milliseconds: where other work goes on
+    /// beside, some run is left alone.
+    fn race<Q: std::fmt::Debug, T: Copy + Default + PartialEq>(
+        &self,
+        what: &str,
+        questions: &[Q],
+        times: usize,
+        length: usize,
+        ours: impl Fn(&Q, &mut [T]) -> (u32, u64),
+        rust: impl Fn(&Q, &mut [T]) -> (u32, u64),
+    ) {
+        let mut room = vec![T::default(); length];
+        if let Some((name, side)) = &self.only {
+            if what.starts_with(name.as_str()) {
+                for _ in 0..self.runs {
+                    if side == "ours" { time(questions, times, &mut room, &ours) } else { time(questions, times, &mut room, &rust) };
+                }
+                println!("{what}, {side}: {} questions", self.runs * times * questions.len());
+            }
+            return;
+        }
+        agree(what, questions, length, &ours, &rust);
+        let (mut a, mut b) = (f64::INFINITY, f64::INFINITY);
+        for _ in 0..self.runs {
+            a = a.min(time(questions, times, &mut room, &ours));
+            b = b.min(time(questions, times, &mut room, &rust));
+        }
+        println!("{what}\t{a:.2}\t{b:.2}");
+    }
+}
+
+/// The lists of sets, and of every tenth set one that is cut short.
+fn lists(sets: &[Vec<u32>], numbers: &mut Numbers) -> Vec<Vec<u8>> {
+    let mut room = vec![0; LONGEST_LIST];
+    let mut list = |(i, set): (usize, &Vec<u32>)| {
+        let long = sheets::write_list(set, &mut room).unwrap();
+        let kept = if i % 10 == 9 { numbers.draw(0, long as u64) as usize } else { long };
+        room[..kept].to_vec()
+    };
+    sets.iter().enumerate().map(&mut list).collect()
+}
+
+fn main() {
+    let mut arguments = std::env::args().skip(1);
+    let runs = arguments.next().map_or(15, |n| n.parse().expect("the number of runs"));
+    let both = Race { runs, only: arguments.next().zip(arguments.next()) };
+    let numbers = &mut Numbers(SEED);
+
+    let labels = labels(numbers);
+    both.race("label reading", &labels, 1, 0, |q, _: &mut [u8]| our_read_label(q), |q, _| rust_read_label(q));
+
+    let named: Vec<u32> = (0..LABELS).map(|_| any_sheet(numbers)).collect();
+    both.race("label writing", &named, 1, LONGEST_LABEL, |&q, r| our_write_label(q, r), |&q, r| rust_write_label(q, r));
+
+    let mut points = points(numbers);
+    both.race("point to sheet, scales mixed", &points, 1, 0, |q, _: &mut [u8]| our_sheet_at(q), |q, _| rust_sheet_at(q));
+    points.sort_by_key(|&(scale, _, _)| scale);
+    both.race("point to sheet, scale by scale", &points, 1, 0, |q, _: &mut [u8]| our_sheet_at(q), |q, _| rust_sheet_at(q));
+
+    let large: Vec<Vec<u32>> = (0..LARGE_SETS).map(|_| large_set(numbers)).collect();
+    let small: Vec<Vec<u32>> = (0..SMALL_SETS).map(|_| small_set(numbers)).collect();
+    for (size, sets, times) in [("4 096 sheets", &large, 8), ("0 to 16 sheets", &small, 16)] {
+        let lists = lists(sets, numbers);
+        both.race(&format!("list reading, {size}"), &lists, times, MOST_SHEETS, |q, r| our_read_list(q, r), |q, r| rust_read_list(q, r));
+        both.race(&format!("list writing, {size}"), sets, times, LONGEST_LIST, |q, r| our_write_list(q, r), |q, r| rust_write_list(q, r));
+    }
+}

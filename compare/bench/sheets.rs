@@ -1,0 +1,298 @@
+//! The definition in plain Rust, for its time alone: labels, points and shelf lists.
+//!
+//! Written as a careful Rust programmer would write it: one table, one pass over the bytes, no allocation. A refusal is its number, with
+//! the room needed beside it where lent room can be too short. Each program here uses a part of it.
+#![allow(dead_code)]
+
+pub const LAST_SHEET: u32 = 7_953_173;
+pub const MOST_SHEETS: usize = 4_096;
+pub const LONGEST_LABEL: usize = 16;
+const WEST: u32 = 200_000;
+const EAST: u32 = 800_000;
+const SOUTH: u32 = 4_570_000;
+const NORTH: u32 = 5_170_000;
+
+pub struct Made {
+    /// Place of the scale above and into how many rows of how many columns its sheet is cut.
+    pub above: usize,
+    pub side: u32,
+}
+
+pub struct Scale {
+    pub mark: u32,
+    pub first: u32,
+    pub width: u32,
+    pub height: u32,
+    pub rows: u32,
+    pub columns: u32,
+    pub made: Option<Made>,
+}
+
+const fn from_area(mark: u32, first: u32, width: u32, height: u32, rows: u32, columns: u32) -> Scale {
+    Scale { mark, first, width, height, rows, columns, made: None }
+}
+
+const fn from_parent(mark: u32, first: u32, width: u32, height: u32, above: usize, side: u32) -> Scale {
+    Scale { mark, first, width, height, rows: 0, columns: 0, made: Some(Made { above, side }) }
+}
+
+pub static SCALES: [Scale; 9] = [
+    from_area(250, 0, 150_000, 100_000, 6, 4),
+    from_area(100, 24, 60_000, 40_000, 15, 10),
+    from_area(50, 174, 30_000, 20_000, 30, 20),
+    from_parent(25, 774, 15_000, 10_000, 2, 2),
+    from_parent(10, 3_174, 6_000, 4_000, 2, 5),
+    from_parent(5, 18_174, 3_000, 2_000, 3, 5),
+    from_parent(2, 78_174, 1_200, 800, 2, 25),
+    from_parent(1, 453_174, 600, 400, 6, 2),
+    from_parent(5, 1_953_174, 300, 200, 7, 2),
+];
+
+// ---- labels
+
+pub struct Sheet {
+    pub scale: usize,
+    pub number: u32,
+    pub west: u32,
+    pub north: u32,
+}
+
+/// Place among the scale's sheets, and where `GROUND` is wanted west and north, otherwise 0.
+fn ground<const GROUND: bool>(scale: usize, values: &[u64]) -> Option<(u32, u32, u32)> {
+    let mut s = &SCALES[scale];
+    let mut values = values.iter();
+    let (mut place, mut weight, mut east, mut south) = (0, 1, 0, 0);
+    while let Some(made) = &s.made {
+        let part = values.next()?.wrapping_sub(1);
+        if part >= (made.side * made.side) as u64 {
+            return None;
+        }
+        let part = part as u32;
+        place += weight * part;
+        weight *= made.side * made.side;
+        if GROUND {
+            east += part % made.side * s.width;
+            south += part / made.side * s.height;
+        }
+        s = &SCALES[made.above];
+    }
+    let (row, column) = (values.next()?.wrapping_sub(101), values.next()?.wrapping_sub(1));
+    if row >= s.rows as u64 || column >= s.columns as u64 {
+        return None;
+    }
+    let (row, column) = (row as u32, column as u32);
+    place += weight * (row * s.columns + column);
+    Some(if GROUND { (place, WEST + east + column * s.width, NORTH - south - row * s.height) } else { (place, 0, 0) })
+}
+
+/// The sheet of a label, with its west and north where `GROUND` is wanted.
+pub fn read_label<const GROUND: bool>(label: &[u8]) -> Result<Sheet, u32> {
+    if label.is_empty() || label.len() > LONGEST_LABEL {
+        return Err(4);
+    }
+    let mut values = [0u64; 8];
+    let mut fields = 0;
+    let mut digits = 0;
+    let mut value = 0u64;
+    for &b in label {
+        if b == b'-' {
+            if digits == 0 || fields == 7 {
+                return Err(4);
+            }
+            values[fields] = value;
+            fields += 1;
+            digits = 0;
+            value = 0;
+        } else {
+            let d = b.wrapping_sub(b'0');
+            if d > 9 || (digits > 0 && value == 0) {
+                return Err(4);
+            }
+            value = value * 10 + d as u64;
+            digits += 1;
+        }
+    }
+    if digits == 0 {
+        return Err(4);
+    }
+    values[fields] = value;
+    fields += 1;
+    let scale = match (values[0], fields) {
+        (250, 3) => 0,
+        (100, 3) => 1,
+        (50, 3) => 2,
+        (25, 4) => 3,
+        (10, 4) => 4,
+        (5, 5) => 5,
+        (2, 4) => 6,
+        (1, 5) => 7,
+        (5, 6) => 8,
+        _ => return Err(4),
+    };
+    let (place, west, north) = ground::<GROUND>(scale, &values[1..fields]).ok_or(5u32)?;
+    Ok(Sheet { scale, number: SCALES[scale].first + place, west, north })
+}
+
+/// A number of at most three digits.
+fn put_field(n: u32, text: &mut [u8; LONGEST_LABEL], mut at: usize) -> usize {
+    if n >= 100 {
+        text[at] = b'0' + (n / 100) as u8;
+        at += 1;
+    }
+    if n >= 10 {
+        text[at] = b'0' + (n / 10 % 10) as u8;
+        at += 1;
+    }
+    text[at] = b'0' + (n % 10) as u8;
+    at + 1
+}
+
+fn put_part(n: u32, text: &mut [u8; LONGEST_LABEL], at: usize) -> usize {
+    text[at] = b'-';
+    put_field(n, text, at + 1)
+}
+
+pub fn write_label(sheet: u32, room: &mut [u8]) -> Result<usize, (u32, usize)> {
+    if sheet > LAST_SHEET {
+        return Err((3, 0));
+    }
+    let mut scale = 8;
+    while sheet < SCALES[scale].first {
+        scale -= 1;
+    }
+    let mut s = &SCALES[scale];
+    let mut place = sheet - s.first;
+    let mut text = [0; LONGEST_LABEL];
+    let mut at = put_field(s.mark, &mut text, 0);
+    while let Some(made) = &s.made {
+        let each = made.side * made.side;
+        at = put_part(place % each + 1, &mut text, at);
+        place /= each;
+        s = &SCALES[made.above];
+    }
+    at = put_part(101 + place / s.columns, &mut text, at);
+    at = put_part(1 + place % s.columns, &mut text, at);
+    if room.len() < at {
+        return Err((10, at));
+    }
+    room[..at].copy_from_slice(&text[..at]);
+    Ok(at)
+}
+
+// ---- points
+
+pub fn sheet_at(scale: u32, e: i64, n: i64) -> Result<u32, u32> {
+    let mut s = SCALES.get((scale as usize).wrapping_sub(1)).ok_or(2u32)?;
+    let east = e.wrapping_sub(WEST as i64 * 1_000) as u64;
+    let south = (NORTH as i64 * 1_000).wrapping_sub(n) as u64;
+    if east >= (EAST - WEST) as u64 * 1_000 || south >= (NORTH - SOUTH) as u64 * 1_000 {
+        return Err(1);
+    }
+    let mut column = east as u32 / (s.width * 1_000);
+    let mut row = south as u32 / (s.height * 1_000);
+    let (mut number, mut weight) = (s.first, 1);
+    while let Some(made) = &s.made {
+        let side = made.side;
+        number += weight * (row % side * side + column % side);
+        weight *= side * side;
+        row /= side;
+        column /= side;
+        s = &SCALES[made.above];
+    }
+    Ok(number + weight * (row * s.columns + column))
+}
+
+// ---- shelf lists
+
+fn groups(n: u32) -> usize {
+    ((38 - (n | 1).leading_zeros()) / 7) as usize
+}
+
+fn put_groups(mut n: u32, room: &mut [u8], mut at: usize) -> usize {
+    while n >= 128 {
+        room[at] = n as u8 | 128;
+        n >>= 7;
+        at += 1;
+    }
+    room[at] = n as u8;
+    at + 1
+}
+
+pub fn write_list(sheets: &[u32], room: &mut [u8]) -> Result<usize, (u32, usize)> {
+    if sheets.len() > MOST_SHEETS {
+        return Err((9, 0));
+    }
+    let mut long = groups(sheets.len() as u32);
+    let mut least = 0;
+    for &sheet in sheets {
+        if sheet > LAST_SHEET {
+            return Err((3, 0));
+        }
+        if sheet < least {
+            return Err((15, 0));
+        }
+        long += groups(sheet - least);
+        least = sheet + 1;
+    }
+    if room.len() < long {
+        return Err((10, long));
+    }
+    let room = &mut room[..long];
+    let mut at = put_groups(sheets.len() as u32, room, 0);
+    least = 0;
+    for &sheet in sheets {
+        at = put_groups(sheet - least, room, at);
+        least = sheet + 1;
+    }
+    Ok(long)
+}
+
+/// The number at a place, and the place behind it.
+fn next_number(list: &[u8], mut at: usize) -> Result<(u32, usize), u32> {
+    let (mut value, mut shift) = (0, 0);
+    while let Some(&b) = list.get(at) {
+        at += 1;
+        if b < 128 {
+            return if b == 0 && shift > 0 { Err(12) } else { Ok((value | (b as u32) << shift, at)) };
+        }
+        if shift == 21 {
+            return Err(12);
+        }
+        value |= (b as u32 & 127) << shift;
+        shift += 7;
+    }
+    Err(11)
+}
+
+/// The refusal and the room needed, or none; and how many sheets were placed.
+pub fn read_list(list: &[u8], room: &mut [u32]) -> (Result<(), (u32, usize)>, usize) {
+    let (count, mut at) = match next_number(list, 0) {
+        Ok((count, at)) => (count as usize, at),
+        Err(why) => return (Err((why, 0)), 0),
+    };
+    if count > MOST_SHEETS {
+        return (Err((12, 0)), 0);
+    }
+    if room.len() < count {
+        return (Err((10, count)), 0);
+    }
+    let mut least = 0;
+    for (placed, place) in room[..count].iter_mut().enumerate() {
+        let sheet = match next_number(list, at) {
+            Ok((gap, end)) => {
+                at = end;
+                least + gap
+            }
+            Err(why) => return (Err((why, 0)), placed),
+        };
+        if sheet > LAST_SHEET {
+            return (Err((13, 0)), placed);
+        }
+        *place = sheet;
+        least = sheet + 1;
+    }
+    if at < list.len() {
+        return (Err((14, 0)), count);
+    }
+    (Ok(()), count)
+}
