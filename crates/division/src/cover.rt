@@ -1,7 +1,10 @@
 // The cover of a window.
 use crate::Edges;
 use crate::Place;
-use crate::grid::AREA;
+use crate::grid::EAST;
+use crate::grid::NORTH;
+use crate::grid::SOUTH;
+use crate::grid::WEST;
 use crate::grid::distance;
 use crate::grid::millimetres;
 use crate::sheet::number_at;
@@ -36,8 +39,7 @@ fn is_window(w: Edges) -> bool
 fn in_area(w: Edges) -> bool
     ensures { λ r. ⌜ r ≡ within area w ⌝ }
 {
-    ((AREA.west <= w.west) & (w.east <= AREA.east))
-        & ((AREA.south <= w.south) & (w.north <= AREA.north))
+    ((WEST <= w.west) & (w.east <= EAST)) & ((SOUTH <= w.south) & (w.north <= NORTH))
 }
 
 // The cells of a size that the stretch from a up to b meets.
@@ -60,11 +62,7 @@ fn columns_in(s: u32, w: Edges) -> Span
     ensures { λ r. ⌜ Run (columnsIn s w) (columns s) r ⌝ }
 {
     let size = millimetres(Scale(s).row().width);
-    span_of(
-        distance(w.west, AREA.west),
-        distance(w.east, AREA.west),
-        size,
-    )
+    span_of(distance(w.west, WEST), distance(w.east, WEST), size)
 }
 
 fn rows_in(s: u32, w: Edges) -> Span
@@ -72,11 +70,7 @@ fn rows_in(s: u32, w: Edges) -> Span
     ensures { λ r. ⌜ Run (rowsIn s w) (rows s) r ⌝ }
 {
     let size = millimetres(Scale(s).row().height);
-    span_of(
-        distance(AREA.north, w.north),
-        distance(AREA.north, w.south),
-        size,
-    )
+    span_of(distance(NORTH, w.north), distance(NORTH, w.south), size)
 }
 
 // The sheet of a scale in a row and a column.

@@ -7,17 +7,19 @@ ghost use lib.IntN.{natAbs, _-ℤ_};
 ghost use Rattle.division.specs.Grid.{area, owns, millimetres, columnAt, rowAt, westOf, northOf, edgesOf};
 ghost use Rattle.division.specs.Given.{Rising, Across, Down, ColumnEdge, RowEdge, OnGrid};
 
-pub const AREA: Edges = Edges {
-    west: 200_000_000,
-    east: 800_000_000,
-    south: 4_570_000_000,
-    north: 5_170_000_000,
-};
+// The edges of the area.
+pub const WEST: i64 = 200_000_000;
+
+pub const EAST: i64 = 800_000_000;
+
+pub const SOUTH: i64 = 4_570_000_000;
+
+pub const NORTH: i64 = 5_170_000_000;
 
 pub(crate) fn in_area(e: i64, n: i64) -> bool
     ensures { λ r. ⌜ r ≡ owns area e n ⌝ }
 {
-    ((AREA.west <= e) & (e < AREA.east)) & ((AREA.south < n) & (n <= AREA.north))
+    ((WEST <= e) & (e < EAST)) & ((SOUTH < n) & (n <= NORTH))
 }
 
 pub(crate) fn millimetres(m: u32) -> u64
@@ -40,7 +42,7 @@ pub(crate) fn column_at(s: u32, e: i64) -> u32
     ensures { λ r. ⌜ r ≡ columnAt s e ⌝ }
 {
     let w = millimetres(Scale(s).row().width);
-    (distance(e, AREA.west) / w) as u32
+    (distance(e, WEST) / w) as u32
 }
 
 pub(crate) fn row_at(s: u32, n: i64) -> u32
@@ -48,7 +50,7 @@ pub(crate) fn row_at(s: u32, n: i64) -> u32
     ensures { λ r. ⌜ r ≡ rowAt s n ⌝ }
 {
     let h = millimetres(Scale(s).row().height);
-    (distance(AREA.north, n) / h) as u32
+    (distance(NORTH, n) / h) as u32
 }
 
 // The west edge of a column and the north edge of a row; one past the last is the area's east and south edge.
@@ -57,7 +59,7 @@ fn west_of(s: u32, column: u32) -> i64
     ensures { λ r. ⌜ r ≡ westOf s column ⌝ }
 {
     let w = millimetres(Scale(s).row().width);
-    let x = 200_000_000 + column as u64 * w;
+    let x = WEST as u64 + column as u64 * w;
     x as i64
 }
 
@@ -66,7 +68,7 @@ fn north_of(s: u32, row: u32) -> i64
     ensures { λ r. ⌜ r ≡ northOf s row ⌝ }
 {
     let h = millimetres(Scale(s).row().height);
-    let y = 5_170_000_000 - row as u64 * h;
+    let y = NORTH as u64 - row as u64 * h;
     y as i64
 }
 

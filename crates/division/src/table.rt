@@ -135,16 +135,17 @@ impl Scale {
         ensures { λ r. ⌜ r ≡ codeRow (self .0) ⌝ }
     {
         let s = self.0;
+        let table = TABLE;
         match s {
-            1 => TABLE[0],
-            2 => TABLE[1],
-            3 => TABLE[2],
-            4 => TABLE[3],
-            5 => TABLE[4],
-            6 => TABLE[5],
-            7 => TABLE[6],
-            8 => TABLE[7],
-            9 => TABLE[8],
+            1 => table[0],
+            2 => table[1],
+            3 => table[2],
+            4 => table[3],
+            5 => table[4],
+            6 => table[5],
+            7 => table[6],
+            8 => table[7],
+            9 => table[8],
             _ => NO_ROW,
         }
     }

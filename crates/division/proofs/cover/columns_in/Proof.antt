@@ -22,22 +22,23 @@ east : (c : tie.After-struct-told) → toZ w64 (ofZ w64 (c .before .before .befo
 east c = returned (c .before .before .before .args .w .east) (c .struct-told .given .1 .0 .1)
 
 distance-requires : tie.Need-distance-requires
-distance-requires c κs = rw (west (c .before)) (west-rises (c .before .before .before .before .pre))
+distance-requires c κs = rw (west c) (west-rises (c .before .before .before .pre))
 
 distance-requires-2 : tie.Need-distance-requires-2
-distance-requires-2 c κs = rw (east (c .before .before .before .before)) (east-rises (c .before .before .before .before .before .before .before .pre))
+distance-requires-2 c κs = let t = c .before .before in rw (east t) (east-rises (t .before .before .before .pre))
 
 span-of-requires : tie.Need-span-of-requires
 span-of-requires c κs =
-    let t = c .before .before .before .before .before in
-    rw (c .before .before .before .distance .ensures, c .distance2 .ensures, west t, east t, t .before .millimetres .ensures, t .before .before .row .ensures)
+    let d = c .before .before in
+    let t = d .before in
+    rw (d .distance .ensures, c .distance2 .ensures, west t, east t, t .before .millimetres .ensures, t .before .before .row .ensures)
     (across (t .before .before .before .pre))
 
 returns : tie.Need-returns
 returns c =
-    let d = c .before in
-    let t = d .before .before .before .before .before in
-    rw (c .span-of .ensures, d .before .before .before .distance .ensures, d .distance2 .ensures, west t, east t, t .before .millimetres .ensures, t .before .before .row .ensures)
+    let d = c .before .before .before in
+    let t = d .before in
+    rw (c .span-of .ensures, d .distance .ensures, c .before .distance2 .ensures, west t, east t, t .before .millimetres .ensures, t .before .before .row .ensures)
     (columns-run (t .before .before .before .pre))
 
 pub columns-in-spec : {M : Type 1} → statement M

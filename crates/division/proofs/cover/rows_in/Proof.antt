@@ -15,30 +15,31 @@ millimetres-requires : tie.Need-millimetres-requires
 millimetres-requires c κs = search needs
 
 -- an edge is passed on as it is
-north : (c : tie.After-struct-told2) → toZ w64 (ofZ w64 (c .before .before .before .before .args .w .north)) ≡ c .before .before .before .before .args .w .north
-north c = returned (c .before .before .before .before .args .w .north) (c .struct-told2 .given .1 .1 .1 .0 .1)
+north : (c : tie.After-struct-told) → toZ w64 (ofZ w64 (c .before .before .before .args .w .north)) ≡ c .before .before .before .args .w .north
+north c = returned (c .before .before .before .args .w .north) (c .struct-told .given .1 .1 .1 .0 .1)
 
-south : (c : tie.After-struct-told2) → toZ w64 (ofZ w64 (c .before .before .before .before .args .w .south)) ≡ c .before .before .before .before .args .w .south
-south c = returned (c .before .before .before .before .args .w .south) (c .struct-told2 .given .1 .1 .0 .1)
+south : (c : tie.After-struct-told) → toZ w64 (ofZ w64 (c .before .before .before .args .w .south)) ≡ c .before .before .before .args .w .south
+south c = returned (c .before .before .before .args .w .south) (c .struct-told .given .1 .1 .0 .1)
 
 distance-requires : tie.Need-distance-requires
-distance-requires c κs = rw (north c) (north-rises (c .before .before .before .before .pre))
+distance-requires c κs = rw (north c) (north-rises (c .before .before .before .pre))
 
 distance-requires-2 : tie.Need-distance-requires-2
-distance-requires-2 c κs = rw (south (c .before .before .before)) (south-rises (c .before .before .before .before .before .before .before .pre))
+distance-requires-2 c κs = let t = c .before .before in rw (south t) (south-rises (t .before .before .before .pre))
 
 span-of-requires : tie.Need-span-of-requires
 span-of-requires c κs =
-    let t = c .before .before .before .before in
-    rw (c .before .before .before .distance .ensures, c .distance2 .ensures, north t, south t, t .before .before .millimetres .ensures, t .before .before .before .row .ensures)
-    (down (t .before .before .before .before .pre))
+    let d = c .before .before in
+    let t = d .before in
+    rw (d .distance .ensures, c .distance2 .ensures, north t, south t, t .before .millimetres .ensures, t .before .before .row .ensures)
+    (down (t .before .before .before .pre))
 
 returns : tie.Need-returns
 returns c =
-    let d = c .before in
-    let t = d .before .before .before .before in
-    rw (c .span-of .ensures, d .before .before .before .distance .ensures, d .distance2 .ensures, north t, south t, t .before .before .millimetres .ensures, t .before .before .before .row .ensures)
-    (rows-run (t .before .before .before .before .pre))
+    let d = c .before .before .before in
+    let t = d .before in
+    rw (c .span-of .ensures, d .distance .ensures, c .before .distance2 .ensures, north t, south t, t .before .millimetres .ensures, t .before .before .row .ensures)
+    (rows-run (t .before .before .before .pre))
 
 pub rows-in-spec : {M : Type 1} → statement M
 rows-in-spec =

@@ -23,14 +23,14 @@ size : (c : tie.After-millimetres) → c .millimetres .result ≡ millimetres (w
 size c = rw (c .before .row .ensures) at (c .millimetres .ensures)
 
 div-result : tie.Need-div-result
-div-result c = rw (size (c .before .before)) (some-width (c .before .before .before .before .pre .scale))
+div-result c = rw (size (c .before)) (some-width (c .before .before .before .pre .scale))
 
 returns : tie.Need-returns
-returns c = rw (size (c .before .before), c .distance .ensures, back (c .before .before .before .before .fits .e))
+returns c = rw (size (c .before), c .distance .ensures, back (c .before .before .before .fits .e))
 
 cast-result : tie.Need-cast-result
 cast-result c =
-    let a = c .before .before .before .before in
+    let a = c .before .before .before in
     omega (arith, returns c, column-in (a .pre .scale) (east (a .args .e) (a .pre .west) (a .pre .east)), rules (a .pre .scale) .few-columns)
 
 pub column-at-spec : {M : Type 1} → statement M

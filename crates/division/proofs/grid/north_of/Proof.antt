@@ -23,6 +23,9 @@ size c = rw (c .before .row .ensures) at (c .millimetres .ensures)
 near : (c : tie.After-millimetres) → c .before .before .args .row * c .millimetres .result ≤ 600_000_000
 near c = let e = c .before .before .pre in rw (size c) (high-in (e .scale) (c .before .before .args .row) (e .in-rows))
 
+cast-y : tie.Need-cast-y
+cast-y c = search needs
+
 mul-y : tie.Need-mul-y
 mul-y c = omega (arith, near c)
 
@@ -38,4 +41,4 @@ returns c =
 
 pub north-of-spec : {M : Type 1} → statement M
 north-of-spec =
-    tie.close (tie.spec row-requires millimetres-requires mul-y sub-y cast-result returns)
+    tie.close (tie.spec row-requires millimetres-requires cast-y mul-y sub-y cast-result returns)

@@ -18,21 +18,21 @@ millimetres-requires c κs = search needs
 
 distance-requires : tie.Need-distance-requires
 distance-requires c κs =
-    let a = c .before .before .before in
+    let a = c .before .before in
     rw (back (a .fits .n)) (record { plain = below-pos 4_570_000_000 (a .args .n) (a .pre .south); rises = a .pre .north })
 
 size : (c : tie.After-millimetres) → c .millimetres .result ≡ millimetres (height (c .before .before .args .s))
 size c = rw (c .before .row .ensures) at (c .millimetres .ensures)
 
 div-result : tie.Need-div-result
-div-result c = rw (size (c .before .before)) (some-height (c .before .before .before .before .pre .scale))
+div-result c = rw (size (c .before)) (some-height (c .before .before .before .pre .scale))
 
 returns : tie.Need-returns
-returns c = rw (size (c .before .before), c .distance .ensures, back (c .before .before .before .before .fits .n))
+returns c = rw (size (c .before), c .distance .ensures, back (c .before .before .before .fits .n))
 
 cast-result : tie.Need-cast-result
 cast-result c =
-    let a = c .before .before .before .before in
+    let a = c .before .before .before in
     omega (arith, returns c, row-in (a .pre .scale) (north (a .args .n) (a .pre .south) (a .pre .north)), rules (a .pre .scale) .few-rows)
 
 pub row-at-spec : {M : Type 1} → statement M

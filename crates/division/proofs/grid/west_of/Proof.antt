@@ -23,6 +23,9 @@ size c = rw (c .before .row .ensures) at (c .millimetres .ensures)
 near : (c : tie.After-millimetres) → c .before .before .args .column * c .millimetres .result ≤ 600_000_000
 near c = let e = c .before .before .pre in rw (size c) (wide-in (e .scale) (c .before .before .args .column) (e .in-columns))
 
+cast-x : tie.Need-cast-x
+cast-x c = search needs
+
 mul-x : tie.Need-mul-x
 mul-x c = omega (arith, near c)
 
@@ -38,4 +41,4 @@ returns c =
 
 pub west-of-spec : {M : Type 1} → statement M
 west-of-spec =
-    tie.close (tie.spec row-requires millimetres-requires mul-x add-x cast-result returns)
+    tie.close (tie.spec row-requires millimetres-requires cast-x mul-x add-x cast-result returns)
