@@ -1,8 +1,4 @@
 pub mod PieceLaws
 pub mod LineLaws
 pub mod PartLaws
-pub mod WriteLaws
-pub mod WordLaws
-pub mod FeedLaws
 pub mod LineTheorems
-pub mod RowTheorems

@@ -61,8 +61,9 @@ fn with_name(sheet: u32, name: &[u8]) -> Found
     ensures { λ r. ⌜ sheetPaper r ≡ withName sheet (now (name .entry)) ⌝ }
 {
     let s = Scale::of(sheet).0;
+    let scaled = s <= 6;
     let formed = is_name(name);
-    if 6 < s {
+    if !scaled {
         return Found::Refused(Refusal::NameScale);
     }
     if !formed {

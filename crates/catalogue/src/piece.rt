@@ -5,7 +5,7 @@ ghost use lib.ListN.{length, getD};
 ghost use Rattle.label.specs.Text.{split};
 
 // Where it ends: at the first mark, or at the end of the bytes.
-pub(crate) fn piece_end(bytes: &[u8], mark: u8) -> usize
+pub fn piece_end(bytes: &[u8], mark: u8) -> usize
     ensures { λ r. ⌜ r ≡ length (getD (split mark (now (bytes .entry))) 0 []) ⌝ }
 {
     let mut i: usize = 0;

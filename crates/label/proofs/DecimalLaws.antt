@@ -1,7 +1,8 @@
--- Decimal numbers: the digits without leading zeros grow by one digit at the end, as a loop writes them.
-use mathlib.Core.Path.{_≡_, refl, ap, _∙_}
+-- Decimal numbers: the digits without leading zeros grow by one digit at the end, as a loop writes them. Assumes nothing.
+use mathlib.Core.Path.{_≡_, refl, sym, ap, _∙_}
 use mathlib.Core.Bool.{Bool, true, false, cond, _&&_}
 use mathlib.Core.List.{List, [], _∷_, _++_}
+use mathlib.Core.Logic.{⊎-elim}
 use Prim.Native.Nat.{ℕ, zero, suc, _+_, _/_, _%_, _^_, _≤_, _<_}
 use native.Mathlib.Nat.{div-lt-iff-lt-mul, pow-suc, div-eq-of-lt, mod-eq-of-lt}
 use native.Mathlib.Numerals.{add-one}
@@ -9,7 +10,8 @@ use native.Mathlib.Omega.{arith}
 use borrow.Author.Tests.{ne-eqb, le-leb}
 use lib.Dec.{eqb, leb}
 use lib.ListN.{length, length-append, replicate, replicate-append-replicate}
-use Rattle.label.specs.Text.{digits, withoutZeros}
+use Rattle.division.proofs.TestLaws.{le-or-less}
+use Rattle.label.specs.Text.{digits, withoutZeros, decimal}
 
 -- some digit is not zero
 pub data Some : List ℕ → Type 0 where
@@ -42,6 +44,10 @@ pub some-last : (ds : List ℕ) {d : ℕ} → (d ≡ 48 → ⊥) → Some (ds ++
 some-last [] n = here n
 some-last (x ∷ ds) n = there (some-last ds n)
 
+-- a number divided by ten has a digit less
+tenth : (k n : ℕ) → n < 10 ^ suc k → n / 10 < 10 ^ k
+tenth k n h = div-lt-iff-lt-mul {k = 10} (omega arith) .1 (omega (arith, pow-suc 10 k))
+
 -- the digits of a number that is not zero, and fits, are not all zero
 pub some-digits : (k n : ℕ) → 0 < n → n < 10 ^ k → Some (digits k n)
 unfolding digits
@@ -50,12 +56,12 @@ some-digits (suc k) n a b = go (n / 10) refl (some-digits k (n / 10))
   where
     go : (q : ℕ) → n / 10 ≡ q → (0 < n / 10 → n / 10 < 10 ^ k → Some (digits k (n / 10))) → Some (digits k (n / 10) ++ ((48 + n % 10) ∷ []))
     go zero e ih = some-last (digits k (n / 10)) (λ z. omega arith)
-    go (suc q) e ih = some-append ((48 + n % 10) ∷ []) (ih (omega arith) (div-lt-iff-lt-mul {k = 10} (omega arith) .1 (omega (arith, pow-suc 10 k))))
+    go (suc q) e ih = some-append ((48 + n % 10) ∷ []) (ih (omega arith) (tenth k n b))
 
 -- a further digit
 pub decimal-step : (k n : ℕ) → 10 ≤ n → n < 10 ^ suc k → withoutZeros (digits (suc k) n) ≡ withoutZeros (digits k (n / 10)) ++ ((48 + n % 10) ∷ [])
 unfolding digits
-decimal-step k n a b = behind (digits k (n / 10)) (48 + n % 10) (some-digits k (n / 10) (omega arith) (div-lt-iff-lt-mul {k = 10} (omega arith) .1 (omega (arith, pow-suc 10 k))))
+decimal-step k n a b = behind (digits k (n / 10)) (48 + n % 10) (some-digits k (n / 10) (omega arith) (tenth k n b))
 
 -- the first digit: only zeros stand before it
 zeros-before : (k d : ℕ) → withoutZeros (digits k 0 ++ (d ∷ [])) ≡ d ∷ []
@@ -77,3 +83,28 @@ zeros-before k d = rw (all-zero k) (drops k)
 pub decimal-one : (k n : ℕ) → n < 10 → withoutZeros (digits (suc k) n) ≡ (48 + n) ∷ []
 unfolding digits
 decimal-one k n h = rw (div-eq-of-lt h, mod-eq-of-lt h) (zeros-before k (48 + n))
+
+-- ---- the decimal of a number
+
+-- a place more than a number needs is a zero in front, and goes
+wider : (k n : ℕ) → n < 10 ^ suc k → withoutZeros (digits (suc (suc k)) n) ≡ withoutZeros (digits (suc k) n)
+wider zero n h = decimal-one 1 n h ∙ sym (decimal-one 0 n h)
+wider (suc k) n h =
+    ⊎-elim (λ g. decimal-step (suc (suc k)) n g (omega (arith, pow-suc 10 (suc (suc k)))) ∙ ap (λ (l : List ℕ). l ++ ((48 + n % 10) ∷ [])) (wider k (n / 10) (tenth (suc k) n h)) ∙ sym (decimal-step (suc k) n g h))
+    (λ l. decimal-one (suc (suc k)) n l ∙ sym (decimal-one (suc k) n l)) (le-or-less 10 n)
+
+-- one digit, or the last behind the others
+pub decimal-digit : (n : ℕ) → n < 10 → decimal n ≡ (48 + n) ∷ []
+unfolding decimal
+decimal-digit n h = decimal-one 19 n h
+
+pub decimal-more : (n : ℕ) → 10 ≤ n → n < 10 ^ 20 → decimal n ≡ decimal (n / 10) ++ ((48 + n % 10) ∷ [])
+unfolding decimal
+decimal-more n g h = decimal-step 19 n g h ∙ ap (λ (l : List ℕ). l ++ ((48 + n % 10) ∷ [])) (sym (wider 18 (n / 10) (tenth 19 n h)))
+
+-- a number of at most so many digits
+pub decimal-most : (k n : ℕ) → n < 10 ^ suc k → n < 10 ^ 20 → length (decimal n) ≤ suc k
+decimal-most zero n h b = omega (arith, ap length (decimal-digit n h))
+decimal-most (suc k) n h b =
+    ⊎-elim (λ g. rw (decimal-more n g b, length-append) (omega (arith, decimal-most k (n / 10) (tenth (suc k) n h) (omega arith))))
+    (λ l. omega (arith, ap length (decimal-digit n l))) (le-or-less 10 n)

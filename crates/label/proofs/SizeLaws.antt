@@ -10,23 +10,18 @@ use lib.ListN.{length}
 use Rattle.division.specs.Words.{_≤?_}
 use Rattle.division.proofs.TestLaws.{le-or-less}
 use Rattle.label.specs.Text.{decimal}
-use Rattle.label.proofs.DecimalLaws.{decimal-step, decimal-one}
+use Rattle.label.proofs.DecimalLaws.{decimal-digit, decimal-more}
 
 pub decimal-1 : (v : ℕ) → v < 10 → decimal v ≡ (48 + v % 10) ∷ []
-unfolding decimal
-decimal-1 v h = let e : v % 10 ≡ v = omega arith in rw e (decimal-one 19 v h)
+decimal-1 v h = let e : v % 10 ≡ v = omega arith in rw e (decimal-digit v h)
 
 pub decimal-2 : (v : ℕ) → 10 ≤ v → v < 100 → decimal v ≡ (48 + v / 10 % 10) ∷ (48 + v % 10) ∷ []
-unfolding decimal
-decimal-2 v g h =
-    let e : v / 10 % 10 ≡ v / 10 = omega arith in
-    decimal-step 19 v g (omega arith) ∙ rw (e, decimal-one 18 (v / 10) (omega arith))
+decimal-2 v g h = decimal-more v g (omega arith) ∙ rw (decimal-1 (v / 10) (omega arith))
 
 pub decimal-3 : (v : ℕ) → 100 ≤ v → v < 1_000 → decimal v ≡ (48 + v / 100) ∷ (48 + v / 10 % 10) ∷ (48 + v % 10) ∷ []
-unfolding decimal
 decimal-3 v g h =
-    let e : v / 10 / 10 ≡ v / 100 = omega arith in
-    decimal-step 19 v (omega arith) (omega arith) ∙ rw (decimal-step 18 (v / 10) (omega arith) (omega arith), decimal-one 17 (v / 10 / 10) (omega arith), e)
+    let e : v / 10 / 10 % 10 ≡ v / 100 = omega arith in
+    decimal-more v (omega arith) (omega arith) ∙ rw (decimal-2 (v / 10) (omega arith) (omega arith), e)
 
 -- ---- how many digits
 

@@ -1,10 +1,10 @@
 // Reads catalogue lines of any length from standard input and prints a row for each: buffers and calls, nothing else.
-use catalogue::rows::feed;
-use catalogue::rows::keep;
-use catalogue::rows::last;
 use libc::STDERR_FILENO;
 use libc::STDIN_FILENO;
 use libc::STDOUT_FILENO;
+use rows::feed::feed;
+use rows::feed::keep;
+use rows::feed::last;
 ghost use Prim.Native.Nat.{_≤_};
 ghost use lib.ListN.{length};
 

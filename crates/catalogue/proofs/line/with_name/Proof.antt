@@ -1,7 +1,9 @@
 -- A line of the definition for each test. Assumes nothing.
-use borrow.Author.Tests.{le-leb, lt-leb}
+use mathlib.Core.Path.{_≡_, refl}
+use mathlib.Core.Bool.{true, false}
 use borrow.Author.Needs.{needs}
 use Rattle.refusal.proofs.PaperLaws.{fails, holds}
+use Rattle.division.specs.Words.{_≤?_}
 use Rattle.catalogue.specs.Given.{withName}
 use Rattle.catalogue.proofs.line.with_name.Statement.{statement}
 use Rattle.catalogue.proofs.line.with_name.Tie as tie
@@ -16,21 +18,24 @@ returns : tie.Need-returns
 unfolding withName
 returns c =
     let s = c .before .before in
-    rw (← s .of .ensures, lt-leb (s .of .result .0) 6 (c .if1 .taken))
+    let above : (s .of .result .0 ≤? 6) ≡ false = fails refl (c .if1 .taken) in
+    rw (← s .of .ensures, above)
+
+-- past the first test the scale has names
+scale-has-names : (c : tie.Else1) → (c .before .before .of .result .0 ≤? 6) ≡ true
+scale-has-names c = holds refl (c .if1 .left)
 
 returns-2 : tie.Need-returns-2
 unfolding withName
 returns-2 c =
     let d = c .before in
-    let s = d .before .before in
-    rw (← s .of .ensures, le-leb (s .of .result .0) 6 (d .if1 .left), fails (d .before .is-name .ensures) (c .if2 .taken))
+    rw (← d .before .before .of .ensures, scale-has-names d, fails (d .before .is-name .ensures) (c .if2 .taken))
 
 returns-3 : tie.Need-returns-3
 unfolding withName
 returns-3 c =
     let d = c .before in
-    let s = d .before .before in
-    rw (← s .of .ensures, le-leb (s .of .result .0) 6 (d .if1 .left), holds (d .before .is-name .ensures) (c .if2 .left))
+    rw (← d .before .before .of .ensures, scale-has-names d, holds (d .before .is-name .ensures) (c .if2 .left))
 
 pub with-name-spec : {M : Type 1} → statement M
 with-name-spec = tie.close (tie.spec of-requires is-name-requires returns returns-2 returns-3)

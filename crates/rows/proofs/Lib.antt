@@ -1,0 +1,4 @@
+pub mod WriteLaws
+pub mod WordLaws
+pub mod FeedLaws
+pub mod RowTheorems

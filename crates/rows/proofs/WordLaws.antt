@@ -1,0 +1,99 @@
+-- The words of a row: each behind a space, the numbers of a sheet and of its edges with at most seven digits. Assumes nothing.
+use mathlib.Core.Path.{_≡_, refl, sym, ap, _∙_}
+use mathlib.Core.Bool.{true, false}
+use mathlib.Core.List.{List, [], _∷_, _++_, flatMap, append-assoc, append-nil}
+use Prim.Native.Nat.{ℕ, _+_, _-_, _*_, _/_, _≤_, _<_}
+use native.Mathlib.Omega.{arith}
+use borrow.Author.Tests.{leb-true, le-leb}
+use lib.IntN.{ℤ, pos, natAbs}
+use lib.ListN.{length}
+use mir.Syntax.{w64}
+use mir.Val.{toZ, ofZ}
+use Rattle.refusal.specs.Paper.{answer, refused, isAnswer}
+use Rattle.refusal.specs.Numbers.{onPaper}
+use Rattle.refusal.specs.declared.Refusal.{Refusal}
+use Rattle.refusal.proofs.PaperLaws.{same-answer, no-answer}
+use Rattle.division.specs.declared.Edges.{Edges}
+use Rattle.division.specs.Table.{width, height}
+use Rattle.division.specs.Grid.{millimetres, westOf, northOf, edgesOf}
+use Rattle.division.specs.Sheet.{isSheet, scaleOf, placeOf, groundOf, cornersOf}
+use Rattle.division.proofs.TestLaws.{from-pos, returned}
+use Rattle.division.proofs.NumberLaws.{on-grid}
+use Rattle.division.proofs.GridLaws.{wide-in, high-in, north-is}
+use Rattle.label.specs.Text.{text, join, decimal}
+use Rattle.catalogue.specs.Line.{readLine}
+use Rattle.rows.specs.Program.{metres, frameWords, words, outputLine}
+use Rattle.rows.specs.Rows.{spaced, Short, Framed}
+use Rattle.label.proofs.DecimalLaws.{decimal-most}
+
+-- ---- words behind spaces
+
+pub frame-words : (e : Edges) → spaced (frameWords e) ≡ (32 ∷ metres (e .west)) ++ ((32 ∷ metres (e .east)) ++ ((32 ∷ metres (e .south)) ++ (32 ∷ metres (e .north))))
+unfolding flatMap
+frame-words e = ap (λ (l : List ℕ). (32 ∷ metres (e .west)) ++ ((32 ∷ metres (e .east)) ++ ((32 ∷ metres (e .south)) ++ l))) (append-nil (32 ∷ metres (e .north)))
+
+pub sheet-words : (n : ℕ) → spaced (words (answer n)) ≡ (32 ∷ decimal n) ++ spaced (frameWords (groundOf n))
+unfolding flatMap
+sheet-words n = refl
+
+pub refusal-words : (number value : ℕ) → spaced (words (refused number value)) ≡ (32 ∷ text "refused") ++ (32 ∷ decimal number)
+unfolding flatMap
+refusal-words number value = ap (λ (l : List ℕ). (32 ∷ text "refused") ++ l) (append-nil (32 ∷ decimal number))
+
+pub row-is : (number : ℕ) (line : List ℕ) → outputLine number line ≡ decimal number ++ (spaced (words (readLine line)) ++ (10 ∷ []))
+unfolding outputLine join
+row-is number line = append-assoc (decimal number) (spaced (words (readLine line))) (10 ∷ [])
+
+-- ---- edges in metres
+
+module _ {x : ℤ} (s : Short x) where
+  pub metres-most : length (metres x) ≤ 7
+  metres-most = decimal-most 6 (natAbs x / 1_000) (s .few) (omega (arith, s .few))
+
+  -- what the machine reads back of an edge that is passed on
+  pub short-back : toZ w64 (ofZ w64 x) ≡ x
+  short-back = let p = from-pos x (s .plain) .0 in returned x (rw (p .is) (omega (arith, rw (p .is) at (s .few))))
+
+  pub short-again : Short (toZ w64 (ofZ w64 x))
+  short-again = rw short-back s
+
+short : (n : ℕ) → n < 10_000_000_000 → Short (pos n)
+short n h = record { plain = le-leb 0 n (omega arith); few = omega arith }
+
+-- ---- a sheet
+
+module _ (n : ℕ) (h : isSheet n ≡ true) where
+  pub sheet-most : length (decimal n) ≤ 7
+  sheet-most = let l = leb-true n 7_953_173 h in decimal-most 6 n (omega arith) (omega arith)
+
+  west-short : (c : ℕ) → c * millimetres (width (scaleOf n)) ≤ 600_000_000 → Short (westOf (scaleOf n) c)
+  west-short c l = short (200_000_000 + c * millimetres (width (scaleOf n))) (omega arith)
+
+  north-short : (r : ℕ) → r * millimetres (height (scaleOf n)) ≤ 600_000_000 → Short (northOf (scaleOf n) r)
+  north-short r l = rw (north-is (scaleOf n) r l) (short (5_170_000_000 - r * millimetres (height (scaleOf n))) (omega arith))
+
+  ground-framed : {at room : ℕ} → at + 32 ≤ room → Framed (groundOf n) at room
+  unfolding edgesOf
+  ground-framed f =
+      let o = on-grid n h in
+      record {
+        west = west-short (placeOf n .column) (wide-in (o .scale) (placeOf n .column) (omega (arith, o .in-columns)));
+        east = west-short (placeOf n .column + 1) (wide-in (o .scale) (placeOf n .column + 1) (omega (arith, o .in-columns)));
+        south = north-short (placeOf n .row + 1) (high-in (o .scale) (placeOf n .row + 1) (omega (arith, o .in-rows)));
+        north = north-short (placeOf n .row) (high-in (o .scale) (placeOf n .row) (omega (arith, o .in-rows)));
+        fits = f;
+      }
+
+  corners : cornersOf n ≡ answer (groundOf n)
+  unfolding cornersOf
+  corners = rw h
+
+  -- its corners are answered
+  pub corners-are : {e : Edges} → answer e ≡ cornersOf n → e ≡ groundOf n
+  corners-are q = same-answer (q ∙ corners)
+
+  pub framed : {e : Edges} {at room : ℕ} → answer e ≡ cornersOf n → at + 32 ≤ room → Framed e at room
+  framed q f = rw (corners-are q) (ground-framed f)
+
+  pub not-refused : (why : Refusal) → onPaper why ≡ cornersOf n → ⊥
+  not-refused why q = let z : true ≡ false = ap isAnswer (sym (q ∙ corners)) ∙ no-answer Edges why in let y : _≡_ {A = ℕ} 0 1 = cc in omega arith

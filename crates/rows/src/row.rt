@@ -1,0 +1,136 @@
+// The row of a line: its number, then the sheet and its edges, or the refusal.
+use catalogue::line::read_line;
+use division::Corners;
+use division::Edges;
+use division::Found;
+use division::sheet::corners_of;
+use refusal::Refusal;
+ghost use mathlib.Core.Path.{_≡_};
+ghost use mathlib.Core.List.{[], _∷_};
+ghost use Prim.Native.Nat.{_+_, _/_, _%_, _≤_, _<_};
+ghost use lib.ListN.{length};
+ghost use Rattle.label.specs.Text.{decimal};
+ghost use Rattle.division.specs.Answers.{sheetPaper};
+ghost use Rattle.refusal.specs.Numbers.{onPaper};
+ghost use Rattle.rows.specs.Program.{metres, frameWords, words, outputLine};
+ghost use Rattle.rows.specs.Rows.{spaced, Wrote, Pair, Edge, Framed, Answered};
+
+// Each of the functions that put something into the room gives the place behind it.
+fn put_byte(b: u8, out: &mut [u8], at: usize) -> usize
+    requires { ⌜ at < length (now out) ⌝ }
+    ensures { λ r. ⌜ Wrote (now (out .entry)) at (now (out .exit)) r (b ∷ []) ⌝ }
+{
+    out[at] = b;
+    at + 1
+}
+
+// Two digits.
+fn put_pair(v: u64, out: &mut [u8], at: usize) -> usize
+    requires { ⌜ Pair v at (length (now out)) ⌝ }
+    ensures { λ r. ⌜ Wrote (now (out .entry)) at (now (out .exit)) r ((48 + v / 10) ∷ (48 + v % 10) ∷ []) ⌝ }
+{
+    let tens = 48 + (v / 10) as u8;
+    let ones = 48 + (v % 10) as u8;
+    out[at] = tens;
+    out[at + 1] = ones;
+    at + 2
+}
+
+// A number in decimal: what stands before its last two digits, and these behind it.
+fn put_number(n: u64, out: &mut [u8], at: usize) -> usize
+    requires { ⌜ at + length (decimal n) ≤ length (now out) ⌝ }
+    ensures { λ r. ⌜ Wrote (now (out .entry)) at (now (out .exit)) r (decimal n) ⌝ }
+{
+    if n < 10 {
+        let digit = 48 + n as u8;
+        return put_byte(digit, out, at);
+    }
+    if n < 100 {
+        return put_pair(n, out, at);
+    }
+    let a = put_number(n / 100, out, at);
+    put_pair(n % 100, out, a)
+}
+
+// A number behind a space.
+fn put_spaced(n: u64, out: &mut [u8], at: usize) -> usize
+    requires { ⌜ at + 1 + length (decimal n) ≤ length (now out) ⌝ }
+    ensures { λ r. ⌜ Wrote (now (out .entry)) at (now (out .exit)) r (32 ∷ decimal n) ⌝ }
+{
+    let a = put_byte(b' ', out, at);
+    put_number(n, out, a)
+}
+
+// An edge in whole metres, behind a space.
+fn put_metres(x: i64, out: &mut [u8], at: usize) -> usize
+    requires { ⌜ Edge x at (length (now out)) ⌝ }
+    ensures { λ r. ⌜ Wrote (now (out .entry)) at (now (out .exit)) r (32 ∷ metres x) ⌝ }
+    ensures { λ r. ⌜ r ≤ at + 8 ⌝ }
+{
+    let mm = x as u64;
+    put_spaced(mm / 1_000, out, at)
+}
+
+// West, east, south and north, each behind a space.
+fn put_edges(e: Edges, out: &mut [u8], at: usize) -> usize
+    requires { ⌜ Framed e at (length (now out)) ⌝ }
+    ensures { λ r. ⌜ Wrote (now (out .entry)) at (now (out .exit)) r (spaced (frameWords e)) ⌝ }
+    ensures { λ r. ⌜ r ≤ at + 32 ⌝ }
+{
+    let a = put_metres(e.west, out, at);
+    let b = put_metres(e.east, out, a);
+    let c = put_metres(e.south, out, b);
+    put_metres(e.north, out, c)
+}
+
+fn put_word(word: &[u8], out: &mut [u8], at: usize) -> usize
+    requires { ⌜ at + length (now word) ≤ length (now out) ⌝ }
+    ensures { λ r. ⌜ Wrote (now (out .entry)) at (now (out .exit)) r (now (word .entry)) ⌝ }
+{
+    let mut i: usize = 0;
+    while i < word.len() {
+        out[at + i] = word[i];
+        i += 1;
+    }
+    at + i
+}
+
+fn put_refusal(why: Refusal, out: &mut [u8], at: usize) -> usize
+    requires { ⌜ at + 19 ≤ length (now out) ⌝ }
+    ensures { λ r. ⌜ Wrote (now (out .entry)) at (now (out .exit)) r (spaced (words (onPaper why))) ⌝ }
+    ensures { λ r. ⌜ r ≤ at + 19 ⌝ }
+{
+    let a = put_word(b" refused", out, at);
+    let number = why.numbered().0;
+    put_spaced(number as u64, out, a)
+}
+
+// The rest of a row: the sheet and its edges, or the refusal, each word behind a space.
+fn put_answer(found: Found, out: &mut [u8], at: usize) -> usize
+    requires { ⌜ Answered found at (length (now out)) ⌝ }
+    ensures { λ r. ⌜ Wrote (now (out .entry)) at (now (out .exit)) r (spaced (words (sheetPaper found))) ⌝ }
+    ensures { λ r. ⌜ r ≤ at + 40 ⌝ }
+{
+    match found {
+        Found::Refused(why) => put_refusal(why, out, at),
+        Found::Sheet(n) => {
+            let a = put_spaced(n as u64, out, at);
+            let corners = corners_of(n);
+            match corners {
+                Corners::Framed(e) => put_edges(e, out, a),
+                Corners::Refused(_) => a,
+            }
+        }
+    }
+}
+
+// The row of a line.
+pub(crate) fn row(line: &[u8], number: u64, out: &mut [u8], at: usize) -> usize
+    requires { ⌜ at + 64 ≤ length (now out) ⌝ }
+    ensures { λ r. ⌜ Wrote (now (out .entry)) at (now (out .exit)) r (outputLine number (now (line .entry))) ⌝ }
+{
+    let a = put_number(number, out, at);
+    let found = read_line(line);
+    let b = put_answer(found, out, a);
+    put_byte(b'\n', out, b)
+}
