@@ -10,7 +10,7 @@ use lib.Seq.{getD-append-add, getD-drop, getD-take, set-split, take-at, drop-app
 use Rattle.label.specs.Text.{decimal}
 use Rattle.label.proofs.DecimalLaws.{decimal-more}
 use Rattle.label.proofs.SizeLaws.{decimal-2}
-use Rattle.rows.specs.Rows.{Wrote, keptOf}
+use Rattle.rows.specs.Rows.{pair, Wrote, keptOf}
 
 -- ---- text in room
 
@@ -67,14 +67,21 @@ pub kept-at : (d : List ℕ) (a n i : ℕ) → i < length (keptOf d a n) → get
 kept-at d a n i h =
     getD-take 66 (drop a (take n d)) i 0 (omega (arith, kept-long d a n)) ∙ getD-drop a (take n d) i 0 ∙ getD-take n d (a + i) 0 (omega (arith, kept-long d a n))
 
--- ---- digits two by two
+-- ---- digits two by two, and four by four
 
-pub decimal-tens : (n : ℕ) → 10 ≤ n → n < 100 → decimal n ≡ (48 + n / 10) ∷ (48 + n % 10) ∷ []
+pub decimal-tens : (n : ℕ) → 10 ≤ n → n < 100 → decimal n ≡ pair n
 decimal-tens n g h = let e : n / 10 % 10 ≡ n / 10 = omega arith in rw e at (decimal-2 n g h)
 
-pub decimal-pair : (n : ℕ) → 100 ≤ n → n < 2 ^ 64 → decimal n ≡ decimal (n / 100) ++ ((48 + n % 100 / 10) ∷ (48 + n % 100 % 10) ∷ [])
+pub decimal-pair : (n : ℕ) → 100 ≤ n → n < 2 ^ 64 → decimal n ≡ decimal (n / 100) ++ pair (n % 100)
 decimal-pair n g h =
     let a : n / 10 / 10 ≡ n / 100 = omega arith in
     let b : n / 10 % 10 ≡ n % 100 / 10 = omega arith in
     let c : n % 10 ≡ n % 100 % 10 = omega arith in
     decimal-more n (omega arith) (omega arith) ∙ rw (decimal-more (n / 10) (omega arith) (omega arith), a, b, c, append-assoc)
+
+pub decimal-four : (n : ℕ) → 10_000 ≤ n → n < 2 ^ 64 → decimal n ≡ decimal (n / 10_000) ++ (pair (n % 10_000 / 100) ++ pair (n % 10_000 % 100))
+decimal-four n g h =
+    let a : n / 100 / 100 ≡ n / 10_000 = omega arith in
+    let b : n / 100 % 100 ≡ n % 10_000 / 100 = omega arith in
+    let c : n % 100 ≡ n % 10_000 % 100 = omega arith in
+    decimal-pair n (omega arith) h ∙ rw (decimal-pair (n / 100) (omega arith) (omega arith), a, b, c, append-assoc)

@@ -1,5 +1,5 @@
 -- The rows of a block of input: the program works block by block, in bounded room. Document 01, "The program".
-use Prim.Native.Nat.{ℕ, _+_, _-_, _/_, _≤_, _<_, _^_}
+use Prim.Native.Nat.{ℕ, _+_, _-_, _/_, _%_, _≤_, _<_, _^_}
 use Prim.Native.Char.{code}
 use mathlib.Core.Path.{_≡_}
 use mathlib.Core.Bool.{true, cond, _&&_}
@@ -82,10 +82,14 @@ firstLine bytes = getD (split (code "\n") bytes) 0 []
 abbrev pub spaced : List (List ℕ) → List ℕ
 spaced ws = flatMap (λ other. code " " ∷ other) ws
 
--- a number of at most two digits, and room for two
-pub record Pair (v at room : ℕ) : Type 0 where
-  pub few : v < 100
-  pub fits : at + 2 ≤ room
+-- two digits
+abbrev pub pair : ℕ → List ℕ
+pair v = (48 + v / 10) ∷ (48 + v % 10) ∷ []
+
+-- a number below so many, and room for so many bytes
+pub record Small (most v size at room : ℕ) : Type 0 where
+  pub few : v < most
+  pub fits : at + size ≤ room
 
 -- an edge that is not negative and has at most seven digits in metres
 pub record Short (x : ℤ) : Type 0 where

@@ -6,14 +6,14 @@ use division::Found;
 use division::sheet::corners_of;
 use refusal::Refusal;
 ghost use mathlib.Core.Path.{_≡_};
-ghost use mathlib.Core.List.{[], _∷_};
+ghost use mathlib.Core.List.{[], _∷_, _++_};
 ghost use Prim.Native.Nat.{_+_, _/_, _%_, _≤_, _<_};
 ghost use lib.ListN.{length};
 ghost use Rattle.label.specs.Text.{decimal};
 ghost use Rattle.division.specs.Answers.{sheetPaper};
 ghost use Rattle.refusal.specs.Numbers.{onPaper};
 ghost use Rattle.rows.specs.Program.{metres, frameWords, words, outputLine};
-ghost use Rattle.rows.specs.Rows.{spaced, Wrote, Pair, Edge, Framed, Answered};
+ghost use Rattle.rows.specs.Rows.{spaced, pair, Wrote, Small, Edge, Framed, Answered};
 
 // Each of the functions that put something into the room gives the place behind it.
 fn put_byte(b: u8, out: &mut [u8], at: usize) -> usize
@@ -24,10 +24,10 @@ fn put_byte(b: u8, out: &mut [u8], at: usize) -> usize
     at + 1
 }
 
-// Two digits.
+// Two digits, and four.
 fn put_pair(v: u64, out: &mut [u8], at: usize) -> usize
-    requires { ⌜ Pair v at (length (now out)) ⌝ }
-    ensures { λ r. ⌜ Wrote (now (out .entry)) at (now (out .exit)) r ((48 + v / 10) ∷ (48 + v % 10) ∷ []) ⌝ }
+    requires { ⌜ Small 100 v 2 at (length (now out)) ⌝ }
+    ensures { λ r. ⌜ Wrote (now (out .entry)) at (now (out .exit)) r (pair v) ⌝ }
 {
     let tens = 48 + (v / 10) as u8;
     let ones = 48 + (v % 10) as u8;
@@ -36,20 +36,47 @@ fn put_pair(v: u64, out: &mut [u8], at: usize) -> usize
     at + 2
 }
 
-// A number in decimal: what stands before its last two digits, and these behind it.
+fn put_four(v: u64, out: &mut [u8], at: usize) -> usize
+    requires { ⌜ Small 10_000 v 4 at (length (now out)) ⌝ }
+    ensures { λ r. ⌜ Wrote (now (out .entry)) at (now (out .exit)) r (pair (v / 100) ++ pair (v % 100)) ⌝ }
+{
+    let a = put_pair(v / 100, out, at);
+    put_pair(v % 100, out, a)
+}
+
+// A number of at most two digits, and of at most four.
+fn put_two(v: u64, out: &mut [u8], at: usize) -> usize
+    requires { ⌜ Small 100 v (length (decimal v)) at (length (now out)) ⌝ }
+    ensures { λ r. ⌜ Wrote (now (out .entry)) at (now (out .exit)) r (decimal v) ⌝ }
+{
+    if v < 10 {
+        let digit = 48 + v as u8;
+        return put_byte(digit, out, at);
+    }
+    put_pair(v, out, at)
+}
+
+fn put_short(v: u64, out: &mut [u8], at: usize) -> usize
+    requires { ⌜ Small 10_000 v (length (decimal v)) at (length (now out)) ⌝ }
+    ensures { λ r. ⌜ Wrote (now (out .entry)) at (now (out .exit)) r (decimal v) ⌝ }
+{
+    if v < 100 {
+        return put_two(v, out, at);
+    }
+    let a = put_two(v / 100, out, at);
+    put_pair(v % 100, out, a)
+}
+
+// A number in decimal: what stands before its last four digits, and these behind it.
 fn put_number(n: u64, out: &mut [u8], at: usize) -> usize
     requires { ⌜ at + length (decimal n) ≤ length (now out) ⌝ }
     ensures { λ r. ⌜ Wrote (now (out .entry)) at (now (out .exit)) r (decimal n) ⌝ }
 {
-    if n < 10 {
-        let digit = 48 + n as u8;
-        return put_byte(digit, out, at);
+    if n < 10_000 {
+        return put_short(n, out, at);
     }
-    if n < 100 {
-        return put_pair(n, out, at);
-    }
-    let a = put_number(n / 100, out, at);
-    put_pair(n % 100, out, a)
+    let a = put_number(n / 10_000, out, at);
+    put_four(n % 10_000, out, a)
 }
 
 // A number behind a space.

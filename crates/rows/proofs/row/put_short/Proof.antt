@@ -1,0 +1,59 @@
+-- At most two digits, or what stands before the last two and these behind it. Assumes nothing.
+use mathlib.Core.Path.{_≡_, ap, _∙_}
+use mathlib.Core.List.{_++_}
+use Prim.Native.Nat.{_+_, _/_, _%_}
+use native.Mathlib.Omega.{arith}
+use borrow.Author.Needs.{needs}
+use lib.ListN.{length, length-append}
+use Rattle.label.specs.Text.{decimal}
+use Rattle.rows.specs.Rows.{pair}
+use Rattle.rows.proofs.WriteLaws.{decimal-pair, then}
+use Rattle.rows.proofs.row.put_short.Statement.{statement}
+use Rattle.rows.proofs.row.put_short.Tie as tie
+
+put-two-requires : tie.Need-put-two-requires
+put-two-requires c κs = search needs
+
+same-length : tie.Need-same-length
+same-length c = search needs
+
+returns : tie.Need-returns
+returns c = search needs
+
+-- the digits of a number of more than two
+more : (c : tie.Else1) → decimal (c .before .before .args .v) ≡ decimal (c .before .before .args .v / 100) ++ pair (c .before .before .args .v % 100)
+more c = let a = c .before .before in decimal-pair (a .args .v) (c .if1 .left) (a .fits .v .fits)
+
+longer : (c : tie.Else1) → length (decimal (c .before .before .args .v)) ≡ length (decimal (c .before .before .args .v / 100)) + 2
+longer c = ap length (more c) ∙ length-append (decimal (c .before .before .args .v / 100)) _
+
+put-two-requires-2 : tie.Need-put-two-requires-2
+put-two-requires-2 c κs =
+    let a = c .before .before .before in
+    record { few = omega (arith, a .pre .few); fits = omega (arith, a .pre .fits, longer (c .before)) }
+
+put-pair-requires : tie.Need-put-pair-requires
+put-pair-requires c κs =
+    let p = c .before .before .before in
+    let e = p .before .before in
+    record { few = omega arith; fits = omega (arith, e .before .before .pre .fits, longer e, p .put-two2 .ensures .end, p .put-two2 .kept .1 .0) }
+
+same-length-2 : tie.Need-same-length-2
+same-length-2 c = search needs
+
+returns-2 : tie.Need-returns-2
+returns-2 c =
+    let p = c .before .before .before .before .before .before in
+    rw (more (p .before .before)) (then (p .put-two2 .ensures) (c .before .before .put-pair .ensures))
+
+pub put-short-spec : {M : Type 1} → statement M
+put-short-spec =
+    tie.close
+    (tie.spec
+    put-two-requires
+    same-length
+    returns
+    put-two-requires-2
+    put-pair-requires
+    same-length-2
+    returns-2)
