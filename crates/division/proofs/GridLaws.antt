@@ -1,14 +1,14 @@
 -- Lengths on the grid, once over the scale: a scale's columns and rows fill the area, and its edges are plain numbers. Assumes nothing.
-use mathlib.Core.Path.{_≡_, refl}
+use mathlib.Core.Path.{_≡_}
 use mathlib.Core.Bool.{true}
-use Prim.Native.Nat.{ℕ, zero, suc, _+_, _-_, _*_, _/_, _≤_, _<_}
+use Prim.Native.Nat.{ℕ, zero, suc, _-_, _*_, _/_, _≤_, _<_}
 use native.Mathlib.Nat.{mul-le-mul-right, mul-comm, mul-assoc, zero-mul}
 use native.Mathlib.Omega.{arith}
 use borrow.Author.Tests.{leb-true, ltb-true}
 use lib.IntN.{ℤ, pos}
 use Rattle.division.specs.Words.{_≤ᶻ_, _<ᶻ_}
 use Rattle.division.specs.Table.{width, height, rows, columns}
-use Rattle.division.specs.Grid.{millimetres, area, columnAt, rowAt, westOf, northOf}
+use Rattle.division.specs.Grid.{millimetres, area, columnAt, rowAt, northOf}
 use Rattle.division.specs.Given.{IsScale}
 use Rattle.division.proofs.TestLaws.{from-pos, after-pos, pos-minus}
 use Rattle.division.proofs.MadeLaws.{quot}
@@ -45,10 +45,7 @@ module _ {s : ℕ} (h : IsScale s) where
   pub high-in : (r : ℕ) → r ≤ rows s → r * millimetres (height s) ≤ 600_000_000
   high-in r l = cell-in r (rows s) (millimetres (height s)) l all-rows
 
--- the edges of columns and rows as plain numbers
-pub west-is : (s c : ℕ) → westOf s c ≡ pos (200_000_000 + c * millimetres (width s))
-west-is s c = refl
-
+-- the edge of a row as a plain number
 pub north-is : (s r : ℕ) → r * millimetres (height s) ≤ 600_000_000 → northOf s r ≡ pos (5_170_000_000 - r * millimetres (height s))
 north-is s r h = pos-minus 5_170_000_000 (r * millimetres (height s)) (omega arith)
 

@@ -1,12 +1,14 @@
 -- A sheet number is a place of a scale: the scales' ranges of numbers follow one another, and within one a place is an index. Assumes nothing.
 use mathlib.Core.Path.{_≡_, refl, sym, ap, _∙_, subst}
-use mathlib.Core.Bool.{true, false}
+use mathlib.Core.Bool.{Bool, true, false, cond}
+use mathlib.Core.List.{List, _∷_}
 use mathlib.Core.Logic.{⊎-elim}
 use Prim.Native.Nat.{ℕ, zero, suc, _+_, _-_, _≤_, _<_}
-use native.Mathlib.Nat.{le-refl, eq-or-lt-of-le, le-of-suc-le-suc}
+use native.Mathlib.Nat.{zero-add, le-refl, eq-or-lt-of-le, le-of-suc-le-suc}
 use native.Mathlib.Omega.{arith}
 use borrow.Author.Tests.{le-leb, lt-leb, leb-true, ltb-true}
 use lib.ListN.{length}
+use mir.Val.{boolByte}
 use Rattle.division.specs.declared.Place.{Place}
 use Rattle.division.specs.Words.{_≤?_, _<?_, from, keep}
 use Rattle.division.specs.Table.{table, tableRow, rowsOf, columnsOf, made, rows, columns, sheets, first}
@@ -62,18 +64,32 @@ find (suc k) n g h =
     (λ l. find k n (omega arith) (omega (arith, rules i .begins)))
     (le-or-less (first (suc k)) n)
 
--- the last scale ends with the last sheet; a number before a scale is before the end of the scale before it
-pub ends-last : first 9 + sheets 9 ≡ 7_953_174
-unfolding table tableRow rowsOf columnsOf
-ends-last = refl
+-- ---- the scales counted one by one
 
-pub falls : (s n : ℕ) → IsScale s → n < first s → IsScale (s - 1) × (n < first (s - 1) + sheets (s - 1))
-falls zero n h l = absurd (omega (arith, h .one))
-falls (suc zero) n h l = absurd (omega (arith, before-one, rules h .begins))
-falls (suc (suc k)) n h l =
-    let i : IsScale (suc k) = record { one = omega arith; nine = omega (arith, h .nine) } in
-    let e : suc (suc k) - 1 ≡ suc k = omega arith in
-    rw e (i, omega (arith, rules h .begins, rules i .ends))
+-- how many of the scales from s on begin at or before a sheet
+abbrev pub begunFrom : ℕ → ℕ → ℕ
+begunFrom n s = length (keep (λ c. first c ≤? n) (from s (10 - s)))
+
+pub at-most-one : (b : Bool) → boolByte b ≤ 1
+at-most-one true = omega arith
+at-most-one false = omega arith
+
+pub one-asked : (n s : ℕ) → s ≤ 9 → boolByte (first s ≤? n) + begunFrom n (s + 1) ≡ begunFrom n s
+unfolding from keep
+one-asked n s h =
+    let e : 10 - s ≡ suc (10 - (s + 1)) = omega arith in
+    rw e (by (first s ≤? n))
+  where
+    rest : List ℕ
+    rest = keep (λ c. first c ≤? n) (from (s + 1) (10 - (s + 1)))
+
+    by : (b : Bool) → boolByte b + length rest ≡ length (cond b (s ∷ rest) rest)
+    by true = omega arith
+    by false = zero-add (length rest)
+
+pub all-asked : (n s : ℕ) → 9 < s → begunFrom n s ≡ 0
+unfolding from keep
+all-asked n s h = let e : 10 - s ≡ 0 = omega arith in rw e
 
 -- ---- sheet and place undo each other
 

@@ -123,16 +123,17 @@ pub(crate) fn number_at(s: u32, p: Place) -> u32
     Scale(s).row().first + index_of(s, p)
 }
 
-// The scale of a sheet: the last that begins at or before it.
+// The scale of a sheet: as many scales begin at or before it as its number says. All nine are asked, which takes no guess.
 pub(crate) fn scale_of(n: u32) -> u32
-    requires { ⌜ isSheet n ≡ true ⌝ }
     ensures { λ r. ⌜ r ≡ scaleOf n ⌝ }
 {
-    let mut s = Scale::LAST;
-    while n < Scale(s).row().first {
-        s -= 1;
+    let mut begun: u32 = 0;
+    let mut s: u32 = 1;
+    while s <= Scale::LAST {
+        begun += (Scale(s).row().first <= n) as u32;
+        s += 1;
     }
-    s
+    begun
 }
 
 // The scale and the place of a sheet.

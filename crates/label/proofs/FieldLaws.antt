@@ -104,10 +104,6 @@ fields-place (ofScale z m k) (f ∷ fs) s e l =
 -- ---- fields and indexes, as the code counts
 
 -- the index of the place that fields name: no division is needed
-pub index-area : (r c : ℕ) (fs : List ℕ) → indexAt (ofArea r c) (placeFrom (ofArea r c) fs) ≡ (getD fs 0 0 - 101) * c + (getD fs 1 0 - 1)
-unfolding indexAt placeFrom
-index-area r c fs = refl
-
 pub index-part : (s : ℕ) (m : Made) (k : ℕ) (fs : List ℕ) → Sound (ofScale s m k) → inRange (ofScale s m k) fs ≡ true → indexAt (ofScale s m k) (placeFrom (ofScale s m k) fs) ≡ partIndex k (indexAt m (placeFrom m (drop 1 fs))) (getD fs 0 0)
 unfolding indexAt placeFrom
 index-part s m k fs h e =

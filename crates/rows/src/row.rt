@@ -5,7 +5,6 @@ use division::Edges;
 use division::Found;
 use division::sheet::corners_of;
 use refusal::Refusal;
-ghost use mathlib.Core.Path.{_≡_};
 ghost use mathlib.Core.List.{[], _∷_, _++_};
 ghost use Prim.Native.Nat.{_+_, _/_, _%_, _≤_, _<_};
 ghost use lib.ListN.{length};

@@ -44,7 +44,7 @@ unfolding child
 returns-2 c = rw (sheet (c .before .before), fails (c .before .is-scale .ensures) (c .if2 .taken))
 
 scale-of-requires : tie.Need-scale-of-requires
-scale-of-requires c κs = sheet (c .before .before)
+scale-of-requires c κs = search needs
 
 is-part-requires : tie.Need-is-part-requires
 is-part-requires c κs = search needs

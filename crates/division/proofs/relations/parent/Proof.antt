@@ -33,7 +33,7 @@ unfolding parent
 returns c = rw (fails (c .before .is-sheet .ensures) (c .if1 .taken))
 
 scale-of-requires : tie.Need-scale-of-requires
-scale-of-requires c κs = sheet c
+scale-of-requires c κs = search needs
 
 row-requires : tie.Need-row-requires
 row-requires c κs = search needs

@@ -1,29 +1,39 @@
--- The loop goes down from the last scale: the sheet always lies before the end of the scale that it has come to. Assumes nothing.
-use mathlib.Core.Path.{sym}
-use Prim.Native.Nat.{_+_, _<_}
+-- The scales counted so far, and those that are left to ask, make the scale. Assumes nothing.
+use mathlib.Core.Path.{_≡_}
+use Prim.Native.Nat.{_+_, _-_, _≤_, _<_}
+use native.Mathlib.Nat.{zero-add}
 use native.Mathlib.Omega.{arith}
 use borrow.Author.Needs.{needs}
-use borrow.Author.Tests.{leb-true}
-use Rattle.division.specs.Table.{first, sheets}
-use Rattle.division.specs.Given.{IsScale}
-use Rattle.division.proofs.NumberLaws.{scale-is, ends-last, falls}
+use Rattle.division.specs.Words.{_≤?_}
+use Rattle.division.specs.Table.{first}
+use Rattle.division.specs.Sheet.{scaleOf}
+use Rattle.division.proofs.NumberLaws.{begunFrom, at-most-one, one-asked, all-asked}
 use Rattle.division.proofs.sheet.scale_of.Statement.{statement}
 use Rattle.division.proofs.sheet.scale_of.Tie as tie
 
 abbrev Inv-loop : tie.InvT-loop
-Inv-loop n s₀ s = IsScale s × (n < first s + sheets s)
+Inv-loop n begun₀ s₀ begun s = (begun + begunFrom n s ≡ scaleOf n) × ((begun < s) × (s ≤ 10))
 
 abbrev μ-loop : tie.MeasureT-loop
-μ-loop n s₀ s = s
+μ-loop n begun₀ s₀ begun s = 10 - s
 
 loop-holds : tie.Need-loop-holds Inv-loop μ-loop
-loop-holds c = (record { one = omega arith; nine = omega arith }, omega (arith, ends-last, leb-true (c .args .n) 7_953_173 (c .pre)))
+unfolding scaleOf
+loop-holds c = (zero-add (begunFrom (c .args .n) 1), (omega arith, omega arith))
 
 row-requires : tie.Need-row-requires Inv-loop μ-loop
 row-requires c κs = search needs
 
-sub-s : tie.Need-sub-s Inv-loop μ-loop
-sub-s c = omega arith
+cast-begun : tie.Need-cast-begun Inv-loop μ-loop
+cast-begun c = search needs
+
+add-begun : tie.Need-add-begun Inv-loop μ-loop
+add-begun c =
+    let l = c .before .before .before .loop in
+    omega (arith, at-most-one (c .before .row .result .first ≤? c .before .before .before .before .args .n), l .inv .1 .0, l .inv .1 .1)
+
+add-s : tie.Need-add-s Inv-loop μ-loop
+add-s c = omega arith
 
 loop-less : tie.Need-loop-less Inv-loop μ-loop
 loop-less c = omega arith
@@ -31,13 +41,12 @@ loop-less c = omega arith
 loop-again : tie.Need-loop-again Inv-loop μ-loop
 loop-again c =
     let l = c .before .before .before .loop in
-    falls (l .s) (c .before .before .before .before .args .n) (l .inv .0) (rw (c .before .before .row .ensures) at (c .if1 .taken))
+    let n = c .before .before .before .before .args .n in
+    rw (c .before .row .ensures) (omega (arith, l .inv .0, one-asked n (l .s) (c .before .before .loop-test .taken)), (omega (arith, at-most-one (first (l .s) ≤? n), l .inv .1 .0), omega arith))
 
 returns : tie.Need-returns Inv-loop μ-loop
-returns c =
-    let l = c .before .before .before .loop in
-    sym (scale-is (l .s) (c .before .before .before .before .args .n) (record { scale = l .inv .0; low = rw (c .before .before .row .ensures) at (c .if1 .left); high = l .inv .1 }))
+returns c = let l = c .before .loop in omega (arith, l .inv .0, all-asked (c .before .before .args .n) (l .s) (c .loop-test .left))
 
 pub scale-of-spec : {M : Type 1} → statement M
 scale-of-spec =
-    tie.close (tie.spec Inv-loop μ-loop loop-holds row-requires sub-s loop-less loop-again returns)
+    tie.close (tie.spec Inv-loop μ-loop loop-holds row-requires cast-begun add-begun add-s loop-less loop-again returns)

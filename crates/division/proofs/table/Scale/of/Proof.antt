@@ -11,7 +11,7 @@ returns : tie.Need-returns
 returns c = rw (fails (c .before .is-sheet .ensures) (c .if1 .taken))
 
 scale-of-requires : tie.Need-scale-of-requires
-scale-of-requires c κs = holds (c .before .is-sheet .ensures) (c .if1 .left)
+scale-of-requires c κs = search needs
 
 returns-2 : tie.Need-returns-2
 returns-2 c = rw (c .scale-of .ensures, holds (c .before .before .is-sheet .ensures) (c .before .if1 .left))
