@@ -29,16 +29,33 @@ fn read_line(line: &[u8]) -> Result<Sheet, u32> {
     Ok(sheet)
 }
 
+const PAIRS: [u8; 200] = {
+    let mut pairs = [0u8; 200];
+    let mut i = 0;
+    while i < 100 {
+        pairs[2 * i] = b'0' + (i / 10) as u8;
+        pairs[2 * i + 1] = b'0' + (i % 10) as u8;
+        i += 1;
+    }
+    pairs
+};
+
 fn put_number(mut n: u64, out: &mut [u8], at: usize) -> usize {
     let mut digits = [0u8; 20];
     let mut i = 20;
-    loop {
+    while n >= 100 {
+        i -= 2;
+        let pair = 2 * (n % 100) as usize;
+        digits[i..i + 2].copy_from_slice(&PAIRS[pair..pair + 2]);
+        n /= 100;
+    }
+    if n >= 10 {
+        i -= 2;
+        let pair = 2 * n as usize;
+        digits[i..i + 2].copy_from_slice(&PAIRS[pair..pair + 2]);
+    } else {
         i -= 1;
-        digits[i] = b'0' + (n % 10) as u8;
-        n /= 10;
-        if n == 0 {
-            break;
-        }
+        digits[i] = b'0' + n as u8;
     }
     out[at..at + 20 - i].copy_from_slice(&digits[i..]);
     at + 20 - i

@@ -43,7 +43,7 @@ fn put_four(v: u64, out: &mut [u8], at: usize) -> usize
     put_pair(v % 100, out, a)
 }
 
-// A number of at most two digits, and of at most four.
+// A number of at most two digits, of at most four, and of at most eight.
 fn put_two(v: u64, out: &mut [u8], at: usize) -> usize
     requires { ⌜ Small 100 v (length (decimal v)) at (length (now out)) ⌝ }
     ensures { λ r. ⌜ Wrote (now (out .entry)) at (now (out .exit)) r (decimal v) ⌝ }
@@ -66,13 +66,24 @@ fn put_short(v: u64, out: &mut [u8], at: usize) -> usize
     put_pair(v % 100, out, a)
 }
 
+fn put_long(v: u64, out: &mut [u8], at: usize) -> usize
+    requires { ⌜ Small 100_000_000 v (length (decimal v)) at (length (now out)) ⌝ }
+    ensures { λ r. ⌜ Wrote (now (out .entry)) at (now (out .exit)) r (decimal v) ⌝ }
+{
+    if v < 10_000 {
+        return put_short(v, out, at);
+    }
+    let a = put_short(v / 10_000, out, at);
+    put_four(v % 10_000, out, a)
+}
+
 // A number in decimal: what stands before its last four digits, and these behind it.
 fn put_number(n: u64, out: &mut [u8], at: usize) -> usize
     requires { ⌜ at + length (decimal n) ≤ length (now out) ⌝ }
     ensures { λ r. ⌜ Wrote (now (out .entry)) at (now (out .exit)) r (decimal n) ⌝ }
 {
-    if n < 10_000 {
-        return put_short(n, out, at);
+    if n < 100_000_000 {
+        return put_long(n, out, at);
     }
     let a = put_number(n / 10_000, out, at);
     put_four(n % 10_000, out, a)

@@ -1,4 +1,4 @@
--- At most four digits, or the number without its last four and these behind it. The measure is the number. Assumes nothing.
+-- At most eight digits, or the number without its last four and these behind it. The measure is the number. Assumes nothing.
 use mathlib.Core.Path.{_≡_, ap, _∙_}
 use mathlib.Core.List.{_++_}
 use Prim.Native.Nat.{ℕ, _<_, _+_, _/_, _%_}
@@ -14,7 +14,7 @@ use Rattle.rows.proofs.row.put_number.Reads as put-number
 use Rattle.rows.proofs.row.put_number.Kinds as put-number-kinds
 use Rattle.rows.proofs.row.+put_number.Lts-put_number as put-number-lts
 use Rattle.rows.proofs.row.put_four.Reads as put-four-reads
-use Rattle.rows.proofs.row.put_short.Reads as put-short-reads
+use Rattle.rows.proofs.row.put_long.Reads as put-long-reads
 use Rattle.rows.proofs.row.+put_number.{statement}
 use Rattle.rows.proofs.row.+put_number.Tie.{close}
 
@@ -30,10 +30,10 @@ put-number-below t =
     and 1 put-number-kinds.ps (falls 1 put-number-kinds.ps _<_ μ-put-number t) put-number.Pre
 
 abbrev known : ℕ → put-number-lts.Claims
-known t = (put-short-reads.Asked, put-short-reads.Learnt, put-number-below t, put-number.Post, put-four-reads.Asked, put-four-reads.Learnt)
+known t = (put-long-reads.Asked, put-long-reads.Learnt, put-number-below t, put-number.Post, put-four-reads.Asked, put-four-reads.Learnt)
 
-put-number-put-short-requires : (t : ℕ) → put-number-lts.Need-put-short-requires (known t) (put-number-at t) put-number.Post
-put-number-put-short-requires t c κs = record { few = c .before .if1 .taken; fits = c .before .before .before .pre .1 }
+put-number-put-long-requires : (t : ℕ) → put-number-lts.Need-put-long-requires (known t) (put-number-at t) put-number.Post
+put-number-put-long-requires t c κs = record { few = c .before .if1 .taken; fits = c .before .before .before .pre .1 }
 
 put-number-same-length : (t : ℕ) → put-number-lts.Need-same-length (known t) (put-number-at t) put-number.Post
 put-number-same-length t c = search needs
@@ -41,9 +41,9 @@ put-number-same-length t c = search needs
 put-number-returns : (t : ℕ) → put-number-lts.Need-returns (known t) (put-number-at t) put-number.Post
 put-number-returns t c = search needs
 
--- the digits of a number of more than four
+-- the digits of a longer number
 more : (t : ℕ) (c : put-number-lts.Else1 (known t) (put-number-at t) put-number.Post) → decimal (c .before .before .args .n) ≡ decimal (c .before .before .args .n / 10_000) ++ (pair (c .before .before .args .n % 10_000 / 100) ++ pair (c .before .before .args .n % 10_000 % 100))
-more t c = let a = c .before .before in decimal-four (a .args .n) (c .if1 .left) (a .fits .n .fits)
+more t c = let a = c .before .before in decimal-four (a .args .n) (omega (arith, c .if1 .left)) (a .fits .n .fits)
 
 longer : (t : ℕ) (c : put-number-lts.Else1 (known t) (put-number-at t) put-number.Post) → length (decimal (c .before .before .args .n)) ≡ length (decimal (c .before .before .args .n / 10_000)) + 4
 longer t c = ap length (more t c) ∙ length-append (decimal (c .before .before .args .n / 10_000)) _
@@ -71,7 +71,7 @@ pub +put-number-spec : {M : Type 1} → statement M
 +put-number-spec = close μ-put-number λ t. put-number-lts.spec (known t)
     (put-number-at t)
     put-number.Post
-    (put-number-put-short-requires t)
+    (put-number-put-long-requires t)
     (put-number-same-length t)
     (put-number-returns t)
     (put-number-put-number-requires t)
