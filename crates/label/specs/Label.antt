@@ -11,9 +11,12 @@ use Rattle.division.specs.Table.{Made, ofArea, ofScale, isScale, scales, made}
 use Rattle.division.specs.Sheet.{numberIn, parentPlace, childPlace, isSheet, sheetOf, scaleOf, placeOf}
 use Rattle.label.specs.Text.{every, split, join, value, decimal}
 
--- "Fields": the first number of a scale's labels, for scales 1 to 9
+-- "Fields": the first number of a scale's labels, for scales 1 to 9; there is no scale 0
+abbrev pub marks : List ℕ
+marks = 0 ∷ 250 ∷ 100 ∷ 50 ∷ 25 ∷ 10 ∷ 5 ∷ 2 ∷ 1 ∷ 5 ∷ []
+
 unfoldable pub markOf : ℕ → ℕ
-markOf s = getD (0 ∷ 250 ∷ 100 ∷ 50 ∷ 25 ∷ 10 ∷ 5 ∷ 2 ∷ 1 ∷ 5 ∷ []) s 0
+markOf s = getD marks s 0
 
 -- the fields after it: the row counted from 101 and the column from 1; before them the number in the parent, and the parent's fields
 unfoldable pub fieldsOf : Made → Place → List ℕ

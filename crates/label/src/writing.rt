@@ -11,7 +11,6 @@ ghost use lib.ListN.{length};
 ghost use Rattle.refusal.specs.Paper.{laid, counted, roomAfter};
 ghost use Rattle.refusal.specs.Numbers.{laidPaper};
 ghost use Rattle.division.specs.Sheet.{isSheet};
-ghost use Rattle.division.specs.Given.{IsScale};
 ghost use Rattle.label.specs.Text.{decimal};
 ghost use Rattle.label.specs.Label.{markOf, labelOf, writeLabel, labelLength};
 ghost use Rattle.label.specs.Given.{text, bytesOf, Appended, Spelt, Digits, behind, areaFields, AreaRoom, indexFields, Room};
@@ -86,15 +85,22 @@ fn put_fields(s: u32, i: u32, out: &mut [u8], at: usize) -> usize
     put_fields(parent, i / each, out, a)
 }
 
-// The first number of each scale's labels, at the scale's number; there is no scale 0.
-const MARKS: [u32; 10] = [0, 250, 100, 50, 25, 10, 5, 2, 1, 5];
-
+// The first number of a scale's labels; of no scale 0.
 fn mark_of(s: u32) -> u32
-    requires { ⌜ IsScale s ⌝ }
     ensures { λ r. ⌜ r ≡ markOf s ⌝ }
 {
-    let i = s as usize;
-    MARKS[i]
+    match s {
+        1 => 250,
+        2 => 100,
+        3 => 50,
+        4 => 25,
+        5 => 10,
+        6 => 5,
+        7 => 2,
+        8 => 1,
+        9 => 5,
+        _ => 0,
+    }
 }
 
 // The label of a sheet.

@@ -1,18 +1,35 @@
--- The first numbers stand in the code as in the definition. Assumes nothing.
-use borrow.Author.Needs.{needs}
-use Rattle.label.specs.Label.{markOf}
+-- Each arm is an entry of the definition's list, and what is none of the nine is beyond it. Assumes nothing.
+use mathlib.Core.Path.{_≡_, refl, sym, ap}
+use mathlib.Core.Bool.{false}
+use Prim.Native.Nat.{ℕ, zero, suc, _≤_}
+use native.Mathlib.Omega.{arith}
+use borrow.Author.Tests.{le-leb, leb-false}
+use lib.ListN.{List·getD-eq-default}
+use Rattle.division.specs.Table.{isScale}
+use Rattle.division.proofs.TableLaws.{none-of-nine}
+use Rattle.label.specs.Label.{marks, markOf}
 use Rattle.label.proofs.writing.mark_of.Statement.{statement}
 use Rattle.label.proofs.writing.mark_of.Tie as tie
 
-mul-result : tie.Need-mul-result
-mul-result c = search needs
-
-array-read-result : tie.Need-array-read-result
-array-read-result c = search needs
-
-returns : tie.Need-returns
+no-mark : (s : ℕ) → isScale s ≡ false → markOf s ≡ 0
 unfolding markOf
-returns c = search needs
+no-mark zero e = refl
+no-mark (suc s) e =
+    let l : 10 ≤ suc s = omega (arith, leb-false (suc s) 9 (rw (le-leb 1 (suc s) (omega arith)) at e)) in
+    List·getD-eq-default marks 0 l
 
 pub mark-of-spec : {M : Type 1} → statement M
-mark-of-spec = tie.close (tie.spec mul-result array-read-result returns)
+unfolding markOf
+mark-of-spec =
+    tie.close
+    (tie.spec
+    (λ c. ap markOf (sym (c .match .keys1)))
+    (λ c. ap markOf (sym (c .match .keys2)))
+    (λ c. ap markOf (sym (c .match .keys3)))
+    (λ c. ap markOf (sym (c .match .keys4)))
+    (λ c. ap markOf (sym (c .match .keys5)))
+    (λ c. ap markOf (sym (c .match .keys6)))
+    (λ c. ap markOf (sym (c .match .keys7)))
+    (λ c. ap markOf (sym (c .match .keys8)))
+    (λ c. ap markOf (sym (c .match .keys9)))
+    (λ c. let r = c .match .rest in let s = c .before .args .s in sym (no-mark s (none-of-nine s (r .1, (r .0 .1, (r .0 .0 .1, (r .0 .0 .0 .1, (r .0 .0 .0 .0 .1, (r .0 .0 .0 .0 .0 .1, (r .0 .0 .0 .0 .0 .0 .1, (r .0 .0 .0 .0 .0 .0 .0 .1, (r .0 .0 .0 .0 .0 .0 .0 .0 .1, tt)))))))))))))

@@ -19,7 +19,7 @@ row-requires : tie.Need-row-requires
 row-requires c κs = search needs
 
 mark-of-requires : tie.Need-mark-of-requires
-mark-of-requires c κs = let a = c .before .before in rw (found (c .before)) (ranged (a .args .sheet) (a .pre) .scale)
+mark-of-requires c κs = search needs
 
 slice-aggregate-put-number : tie.Need-slice-aggregate-put-number
 slice-aggregate-put-number c = search needs
