@@ -2,7 +2,7 @@
 use mathlib.Core.Path.{_≡_, refl, ap, _∙_, subst}
 use mathlib.Core.Bool.{true}
 use mathlib.Core.List.{List, [], _∷_, _++_, flatMap, append-assoc, append-nil}
-use Prim.Native.Nat.{ℕ, _+_, _/_, _%_, _≤_, _<_}
+use Prim.Native.Nat.{ℕ, _+_, _*_, _/_, _%_, _≤_, _<_}
 use native.Mathlib.Nat.{mod-lt, zero-add}
 use native.Mathlib.Numerals.{add-one}
 use native.Mathlib.Omega.{arith}
@@ -10,12 +10,14 @@ use borrow.Author.Tests.{le-leb, lt-leb}
 use lib.ListN.{length, length-append, take, drop, getD, set, length-set}
 use lib.Seq.{take-suc-set, length-take-le, paste-suc}
 use Rattle.refusal.specs.Paper.{answer, refused, laid, counted, roomAfter}
-use Rattle.division.specs.Table.{Made, made, rows, columns, parentScale, parts, perParent}
+use Rattle.division.specs.declared.table.Row.{Row}
+use Rattle.division.specs.Table.{Made, made, rows, columns, parentScale, parts, perParent, codeRow}
 use Rattle.division.specs.Sheet.{placeAt, isSheet, scaleOf, indexOf}
+use Rattle.division.specs.Given.{Parted}
 use Rattle.division.proofs.MadeLaws.{Sound, quot, left-few}
 use Rattle.division.proofs.TableLaws.{rules}
 use Rattle.division.proofs.NumberLaws.{ranged, indexed}
-use Rattle.division.proofs.FamilyLaws.{top, deep, some-columns, parted, parent-indexed}
+use Rattle.division.proofs.FamilyLaws.{top, deep, some-columns, parted, above, parent-indexed}
 use Rattle.label.specs.declared.writing.Text.{Text}
 use Rattle.label.specs.Text.{decimal}
 use Rattle.label.specs.Label.{markOf, fieldsOf, labelOf}
@@ -77,6 +79,55 @@ module _ {t : Text} {s i : ℕ} (x : Room t s i) (e : parentScale s ≡ 0 → �
 
     pub deep-spelt : {r : Text} → Appended u r (behind (indexFields (parentScale s) (i / perParent s))) → Appended t r (behind (indexFields s i))
     deep-spelt q = rw (deep-fields, behind-more (i % perParent s + 1)) (then p q)
+
+-- ---- the loop over the parents
+
+-- the fields so far are put: what is left are those of an index at `up`
+pub record Going (s i : ℕ) (t : Text) (row : Row) (index : ℕ) (u : Text) : Type 0 where
+  pub up : ℕ
+  pub is-row : row ≡ codeRow up
+  pub room : Room u up index
+  pub same : length (u .bytes) ≡ length (t .bytes)
+  pub rest : {r : Text} → Appended u r (behind (indexFields up index)) → Appended t r (behind (indexFields s i))
+
+pub going-first : {s i : ℕ} {t : Text} (row : Row) → row ≡ codeRow s → Room t s i → Going s i t row i t
+going-first {s} row e x = record { up = s; is-row = e; room = x; same = refl; rest = λ p. p }
+
+module _ {s i : ℕ} {t : Text} {row : Row} {index : ℕ} {u : Text} (g : Going s i t row index u) where
+  module _ (e : row .parent ≡ 0) where
+    here-top : parentScale (g .up) ≡ 0
+    here-top = rw (g .is-row) at e
+
+    pub area-room : AreaRoom u (row .columns) index
+    area-room = rw (g .is-row) (top-room (g .room) here-top)
+
+    pub going-done : {r : Text} → Appended u r (behind (areaFields (row .columns) index)) → Appended t r (behind (indexFields s i))
+    going-done p = g .rest (rw (top-fields (g .room) here-top) (rw (g .is-row) at p))
+
+  module _ (e : row .parent ≡ 0 → ⊥) where
+    here-deep : parentScale (g .up) ≡ 0 → ⊥
+    here-deep = rw (g .is-row) at e
+
+    pub cut : Parted (row .parts)
+    cut = rw (g .is-row) (parted (g .room .indexed .scale) here-deep)
+
+    pub higher : codeRow (row .parent) .parent < row .parent
+    higher = rw (g .is-row) (rules (above (g .room .indexed .scale) here-deep) .above)
+
+    pub number-room : Digits u (45 ∷ decimal (index % (row .parts * row .parts) + 1)) (index % (row .parts * row .parts) + 1)
+    number-room = rw (g .is-row) (deep-number (g .room) here-deep)
+
+    pub going-next : {v : Text} → Appended u v (45 ∷ decimal (index % (row .parts * row .parts) + 1)) → length (v .bytes) ≡ length (u .bytes)
+        → (next : Row) → next ≡ codeRow (row .parent) → Going s i t next (index / (row .parts * row .parts)) v
+    going-next {v} p k next is =
+        let q : Appended u v (45 ∷ decimal (index % perParent (g .up) + 1)) = rw (g .is-row) at p in
+        record {
+          up = parentScale (g .up);
+          is-row = is ∙ ap (λ (r : Row). codeRow (r .parent)) (g .is-row);
+          room = rw (g .is-row) (deep-room (g .room) here-deep q k);
+          same = k ∙ g .same;
+          rest = rw (g .is-row) (λ x. g .rest (deep-spelt (g .room) here-deep q x));
+        }
 
 -- ---- the label of a sheet: the first number into an empty text, and the fields behind it
 

@@ -75,14 +75,16 @@ fn put_fields(s: u32, i: u32, out: &mut [u8], at: usize) -> usize
     requires { ⌜ Room (text (now out) at) s i ⌝ }
     ensures { λ r. ⌜ Appended (text (now (out .entry)) at) (text (now (out .exit)) r) (behind (indexFields s i)) ⌝ }
 {
-    let row = Scale(s).row();
-    let parent = row.parent;
-    if parent == 0 {
-        return put_area(row.columns, i, out, at);
+    let mut t = Scale(s).row();
+    let mut index = i;
+    let mut a = at;
+    while t.parent != 0 {
+        let each = t.parts * t.parts;
+        a = put_field(index % each + 1, out, a);
+        index = index / each;
+        t = Scale(t.parent).row();
     }
-    let each = row.parts * row.parts;
-    let a = put_field(i % each + 1, out, at);
-    put_fields(parent, i / each, out, a)
+    put_area(t.columns, index, out, a)
 }
 
 // The first number of a scale's labels; of no scale 0.
