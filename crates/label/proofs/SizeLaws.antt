@@ -1,12 +1,12 @@
 -- A number below a thousand has one, two or three digits, more of them the larger it is. Assumes nothing.
 use mathlib.Core.Path.{_≡_, _∙_}
-use mathlib.Core.Bool.{Bool, true, false}
 use mathlib.Core.List.{[], _∷_}
 use mathlib.Core.Logic.{⊎-elim}
 use Prim.Native.Nat.{ℕ, _+_, _/_, _%_, _≤_, _<_}
 use native.Mathlib.Omega.{arith}
 use borrow.Author.Tests.{le-leb, lt-leb}
 use lib.ListN.{length}
+use mir.Val.{boolByte}
 use Rattle.division.specs.Words.{_≤?_}
 use Rattle.division.proofs.TestLaws.{le-or-less}
 use Rattle.label.specs.Text.{decimal}
@@ -25,17 +25,13 @@ decimal-3 v g h =
 
 -- ---- how many digits
 
-abbrev bit : Bool → ℕ
-bit false = 0
-bit true = 1
-
-size : (v : ℕ) → v < 1_000 → length (decimal v) ≡ 1 + bit (10 ≤? v) + bit (100 ≤? v)
+pub size : (v : ℕ) → v < 1_000 → length (decimal v) ≡ 1 + boolByte (10 ≤? v) + boolByte (100 ≤? v)
 size v h =
     ⊎-elim (λ a. ⊎-elim (λ b. rw (decimal-3 v b h, le-leb 10 v a, le-leb 100 v b))
     (λ b. rw (decimal-2 v a b, le-leb 10 v a, lt-leb 100 v b)) (le-or-less 100 v))
     (λ a. rw (decimal-1 v a, lt-leb 10 v a, lt-leb 100 v (omega arith))) (le-or-less 10 v)
 
-bit-rises : (a v w : ℕ) → v ≤ w → bit (a ≤? v) ≤ bit (a ≤? w)
+bit-rises : (a v w : ℕ) → v ≤ w → boolByte (a ≤? v) ≤ boolByte (a ≤? w)
 bit-rises a v w h = ⊎-elim (λ l. rw (le-leb a v l, le-leb a w (omega arith)) (omega arith)) (λ l. rw (lt-leb a v l) (omega arith)) (le-or-less a v)
 
 pub size-rises : (v w : ℕ) → v ≤ w → w < 1_000 → length (decimal v) ≤ length (decimal w)

@@ -2,18 +2,22 @@
 use mathlib.Core.Path.{_≡_, refl, ap, _∙_, subst}
 use mathlib.Core.Bool.{true}
 use mathlib.Core.List.{List, [], _∷_, _++_, flatMap, append-assoc, append-nil}
+use mathlib.Core.Logic.{⊎-elim}
 use Prim.Native.Nat.{ℕ, _+_, _*_, _/_, _%_, _≤_, _<_}
-use native.Mathlib.Nat.{mod-lt, zero-add}
+use native.Mathlib.Nat.{mod-lt, zero-add, add-zero, le-refl}
 use native.Mathlib.Numerals.{add-one}
 use native.Mathlib.Omega.{arith}
 use borrow.Author.Tests.{le-leb, lt-leb}
 use lib.ListN.{length, length-append, take, drop, getD, set, length-set}
-use lib.Seq.{take-suc-set, length-take-le, paste-suc}
+use lib.Seq.{take-set-le, take-suc-set, length-take-le, paste-suc}
+use mir.Val.{boolByte}
 use Rattle.refusal.specs.Paper.{answer, refused, laid, counted, roomAfter}
 use Rattle.division.specs.declared.table.Row.{Row}
+use Rattle.division.specs.Words.{_≤?_}
 use Rattle.division.specs.Table.{Made, made, rows, columns, parentScale, parts, perParent, codeRow}
 use Rattle.division.specs.Sheet.{placeAt, isSheet, scaleOf, indexOf}
 use Rattle.division.specs.Given.{Parted}
+use Rattle.division.proofs.TestLaws.{le-or-less}
 use Rattle.division.proofs.MadeLaws.{Sound, quot, left-few}
 use Rattle.division.proofs.TableLaws.{rules}
 use Rattle.division.proofs.NumberLaws.{ranged, indexed}
@@ -23,6 +27,7 @@ use Rattle.label.specs.Text.{decimal}
 use Rattle.label.specs.Label.{markOf, fieldsOf, labelOf}
 use Rattle.label.specs.Given.{bytesOf, Appended, Spelt, Digits, behind, areaFields, AreaRoom, indexFields, Room}
 use Rattle.label.proofs.FieldLaws.{fields-area, fields-part}
+use Rattle.label.proofs.SizeLaws.{decimal-1, decimal-2, decimal-3, size}
 use Rattle.label.proofs.LengthLaws.{Short, behind-more, more-long, sizes, label-is, label-long, label-high}
 
 -- ---- bytes behind bytes
@@ -35,6 +40,48 @@ then {t} {u} {r} {xs} {ys} p q = record {
   longer = omega (arith, p .longer, q .longer, length-append xs ys);
   bytes = q .bytes ∙ ap (λ (l : List ℕ). l ++ ys) (p .bytes) ∙ append-assoc (bytesOf t) xs ys;
 }
+
+-- ---- the digits of a number: all three are put, each at its place, and a zero in front goes under the digit behind it
+
+module _ (d : List ℕ) (at v : ℕ) (few : v < 1_000) (room : at + length (decimal v) ≤ length d) where
+  abbrev behindHundreds : ℕ
+  behindHundreds = at + boolByte (100 ≤? v)
+
+  abbrev behindTens : ℕ
+  behindTens = behindHundreds + boolByte (10 ≤? v)
+
+  pub last-in : behindTens < length d
+  last-in = omega (arith, room, size v few)
+
+  pub digits-put : take (behindTens + 1) (set (set (set d at (48 + v / 100)) behindHundreds (48 + v / 10 % 10)) behindTens (48 + v % 10)) ≡ take at d ++ decimal v
+  digits-put = ⊎-elim three (λ l. ⊎-elim (two l) one (le-or-less 10 v)) (le-or-less 100 v)
+    where
+      h : List ℕ
+      h = set d at (48 + v / 100)
+
+      under : (x : List ℕ) (b : ℕ) → take at (set x at b) ≡ take at x
+      under x b = take-set-le at x at b (le-refl at)
+
+      three : 100 ≤ v → take (behindTens + 1) (set (set h behindHundreds (48 + v / 10 % 10)) behindTens (48 + v % 10)) ≡ take at d ++ decimal v
+      three l =
+          let n : length (decimal v) ≡ 3 = ap length (decimal-3 v l few) in
+          rw (le-leb 100 v l, le-leb 10 v (omega arith))
+          (with-one (set h (at + 1) (48 + v / 10 % 10)) (at + 1 + 1) (48 + v % 10) (simp length-set (omega arith))
+          ∙ rw (with-one h (at + 1) (48 + v / 10 % 10) (simp length-set (omega arith)), with-one d at (48 + v / 100) (omega arith), decimal-3 v l few) (simp append-assoc))
+
+      two : v < 100 → 10 ≤ v → take (behindTens + 1) (set (set h behindHundreds (48 + v / 10 % 10)) behindTens (48 + v % 10)) ≡ take at d ++ decimal v
+      two l m =
+          let n : length (decimal v) ≡ 2 = ap length (decimal-2 v m l) in
+          rw (lt-leb 100 v l, le-leb 10 v m, add-zero at)
+          (with-one (set h at (48 + v / 10 % 10)) (at + 1) (48 + v % 10) (simp length-set (omega arith))
+          ∙ rw (with-one h at (48 + v / 10 % 10) (simp length-set (omega arith)), under d (48 + v / 100), decimal-2 v m l) (simp append-assoc))
+
+      one : v < 10 → take (behindTens + 1) (set (set h behindHundreds (48 + v / 10 % 10)) behindTens (48 + v % 10)) ≡ take at d ++ decimal v
+      one l =
+          let n : length (decimal v) ≡ 1 = ap length (decimal-1 v l) in
+          rw (lt-leb 100 v (omega arith), lt-leb 10 v l, add-zero at, add-zero at)
+          (with-one (set h at (48 + v / 10 % 10)) at (48 + v % 10) (simp length-set (omega arith))
+          ∙ rw (under h (48 + v / 10 % 10), under d (48 + v / 100), decimal-1 v l))
 
 -- ---- the fields of an index
 

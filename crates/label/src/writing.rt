@@ -30,24 +30,20 @@ fn put_byte(b: u8, out: &mut [u8], at: usize) -> usize
     at + 1
 }
 
-// A number of at most three digits.
+// A number of at most three digits. All three are put, and a zero in front is put over by the digit behind it.
 fn put_number(v: u32, out: &mut [u8], at: usize) -> usize
     requires { ⌜ Digits (text (now out) at) (decimal v) v ⌝ }
     ensures { λ r. ⌜ Appended (text (now (out .entry)) at) (text (now (out .exit)) r) (decimal v) ⌝ }
 {
-    let ones = 48 + (v % 10) as u8;
-    if v < 10 {
-        return put_byte(ones, out, at);
-    }
-    let tens = 48 + (v / 10 % 10) as u8;
-    if v < 100 {
-        let a = put_byte(tens, out, at);
-        return put_byte(ones, out, a);
-    }
     let hundreds = 48 + (v / 100) as u8;
-    let a = put_byte(hundreds, out, at);
-    let b = put_byte(tens, out, a);
-    put_byte(ones, out, b)
+    let tens = 48 + (v / 10 % 10) as u8;
+    let ones = 48 + (v % 10) as u8;
+    let a = at + (100 <= v) as usize;
+    let b = a + (10 <= v) as usize;
+    out[at] = hundreds;
+    out[a] = tens;
+    out[b] = ones;
+    b + 1
 }
 
 // A field behind a hyphen.
