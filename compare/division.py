@@ -1,4 +1,3 @@
-#!/usr/bin/env python3
 """A second opinion on the sheet division: cases, and what must come out of them.
 
 Written from the definition of the sheet division alone (document 01), and not from the code or the specs of
@@ -6,17 +5,12 @@ the crate `division`. It goes another way than the code: every sheet is laid out
 row by row from the upper left, and a point is looked up by trying each of the sheets that could own it, scale
 after scale. No row, column or part is found by dividing.
 
-    python3 compare/division.py
-
-rewrites crates/division_cases/src/inputs.rt (the questions) and crates/division_cases/stdout (a line for each
-question with its answer). `rt check division_cases` then runs the questions through the library and compares.
-It needs Python 3 and nothing else, about 100 MB and 15 seconds; the same files come out of every run.
+compare/cases.py asks for the cases and their answers, and says what a question looks like.
 """
 from array import array
 from functools import lru_cache
-from pathlib import Path
 
-CRATE = Path(__file__).resolve().parent.parent / 'crates' / 'division_cases'
+from lines import Numbers, listed, only_new, words
 
 # The area in metres, and its upper left corner as origin.
 WEST, EAST, SOUTH, NORTH = 200_000, 800_000, 4_570_000, 5_170_000
@@ -238,66 +232,40 @@ def cover(scale, window, room):
     return [owner(scale, c, r) for r in down for c in over]
 
 
-# ---- the lines
-
-MODULUS = 1_000_000_007
-LISTED = 40
+# ---- the answers, as they are written
 
 
-def mixed(total, numbers):
-    for n in numbers:
-        total = (total % MODULUS * 31 + n % MODULUS) % MODULUS
-    return total
+def told(answer):
+    return words(*answer) if isinstance(answer, tuple) else str(answer)
 
 
-def words(answer):
-    if isinstance(answer, tuple):
-        return ' '.join(str(x) for x in answer)
-    return str(answer)
+def table(scale):
+    """Width and height in metres, first and last sheet; and the last scale and the last sheet of all."""
+    row = (*SCALES[scale][:2], first[scale], last[scale]) if scale in SCALES else (0, 0, 0, 0)
+    return words(*row, max(SCALES), LAST_SHEET)
 
 
-def line(name, function):
-    """The line of a question: its name, its numbers and the answer."""
-    return lambda *case: f'{name} {words(case)}: {words(function(*case))}'
+def told_of(sheet):
+    """Place and the sheet found there, edges and the sheet found at the upper left corner, and parent."""
+    if sheet > LAST_SHEET:
+        return ', '.join([told(locate(sheet)), told(corners(sheet)), told(parent_of(sheet))])
+    place, edges = locate(sheet), corners(sheet)
+    found = words(*place, on(*place)), words(*edges, at(place[0], edges[0], edges[3]))
+    return ', '.join([*found, told(parent_of(sheet))])
 
 
-def scale_line(s):
-    if s in SCALES:
-        return f'scale {s}: {SCALES[s][0]} {SCALES[s][1]} {first[s]} {last[s]}'
-    return f'scale {s}: 0 0 0 0'
+def number(sheet):
+    """The same, and the three rows of neighbours."""
+    rows = [words(*('-' if x is None else x for x in row)) for row in neighbours(sheet)]
+    return ', '.join([told_of(sheet), *rows])
 
 
-def block(n):
-    return ' | '.join(' '.join('-' if x is None else str(x) for x in row) for row in neighbours(n))
-
-
-def cover_line(room, scale, west, east, south, north):
+def cover_in(room, scale, west, east, south, north):
     answer = cover(scale, (west, east, south, north), room)
     if is_refused(answer):
-        said = f'{words(answer)} kept {room}'
-    elif len(answer) <= LISTED:
-        said = ' '.join(map(str, answer)) + f' kept {room - len(answer)}'
-    else:
-        assert len(set(answer)) == len(answer)
-        said = f'count {len(answer)} first {answer[0]} last {answer[-1]} sum {mixed(0, answer)} kept {room - len(answer)}'
-    return f'cover room {room} {scale} {west} {east} {south} {north}: {said}'
-
-
-def sweep_line(start, end, far):
-    """The sum of what is said of each sheet: its number, parent, place, the sheet found there, edges, the sheet found at its corner."""
-    total = 0
-    for n in range(start, end + 1, far):
-        total = mixed(total, [n])
-        for answer in (parent_of(n), locate(n)):
-            if is_refused(answer):
-                total = mixed(total, [answer[1]])
-            else:
-                total = mixed(total, answer if isinstance(answer, tuple) else [answer])
-        if n <= LAST_SHEET:
-            scale, row, column = locate(n)
-            edges = corners(n)
-            total = mixed(total, [on(scale, row, column), *edges, at(scale, edges[0], edges[3])])
-    return f'sweep {start} {end} {far}: {total}'
+        return f'{told(answer)} kept {room}'
+    assert len(set(answer)) == len(answer)
+    return f'{len(answer)}{listed(answer, room)}'
 
 
 # ---- the questions
@@ -306,24 +274,6 @@ MIN, MAX = -2**63, 2**63 - 1
 U32 = 2**32 - 1
 NONE = [LAST_SHEET + 1, 8_000_000, 2**24, 2**31 - 1, 2**31, U32]
 NO_SCALE = [0, 10, 11, 255, 256, 257, 2**16 + 1, 2**31 + 1, U32 - 8, U32]
-
-
-class Numbers:
-    """A small generator of its own, so that every run asks the same."""
-
-    def __init__(self, seed):
-        self.state = seed
-
-    def below(self, n):
-        self.state = (self.state * 6364136223846793005 + 1442695040888963407) % 2**64
-        return (self.state >> 20) % n
-
-    def between(self, a, b):
-        return a + self.below(b - a + 1)
-
-
-def only_new(cases):
-    return list(dict.fromkeys(cases))
 
 
 def edge_sheets(scale):
@@ -526,46 +476,16 @@ def sweep_cases():
     return [(first[s], last[s], far[s]) for s in SCALES] + [(LAST_SHEET - 20, LAST_SHEET + 20, 1), (U32 - 5, U32, 1)]
 
 
-# ---- the files
-
-
-def rows_of(cases):
-    return [c if isinstance(c, tuple) else (c,) for c in cases]
-
-
-def constant(name, says, cases):
-    """A list of numbers as the formatter lays it out, one to a line."""
-    numbers = [n for row in rows_of(cases) for n in row]
-    return [f'// {says}', f'pub const {name}: [i64; {len(numbers)}] = [', *(f'    {n},' for n in numbers), '];', '']
-
-
-def main():
+def kinds():
+    """Of each kind of question: its word, what is answered, and the cases."""
     lay_out()
-    scales = [*SCALES, *NO_SCALE]
-    room_first = [(c[5],) + c[:5] for c in cover_cases() + far_cover_cases()]
-    # A list of cases: its name and what a case is; then for each question asked of it the answer's line.
-    lists = [
-        ('SCALES', 'Scales.', scales, [scale_line]),
-        ('SHEETS', 'Sheets.', sheet_cases(), [line('locate', locate), line('corners', corners), line('parent', parent_of), line('neighbours', block)]),
-        ('POINTS', 'Scale, E and N.', point_cases() + far_point_cases(), [line('at', at)]),
-        ('PLACES', 'Scale, row and column, counted from 0.', place_cases(), [line('on', on)]),
-        ('CHILDREN', 'Sheet, scale and number.', child_cases(), [line('child', child)]),
-        ('STEPS', 'Sheet, east and south.', step_cases(), [line('step', step)]),
-        ('FAR_STEPS', 'The same of no sheets, and with steps near the ends of the range.', far_step_cases(), [line('step', step)]),
-        ('OFFSETS', 'Two sheets.', offset_cases(), [line('offset', offset)]),
-        ('COVERS', 'The room lent, scale, west, east, south and north.', room_first, [cover_line]),
-        ('SWEEPS', 'First sheet, last sheet, and how far from one to the next.', sweep_cases(), [sweep_line]),
+    return [
+        ('table', table, [(s,) for s in [*SCALES, *NO_SCALE]]),
+        ('number', number, [(n,) for n in sheet_cases()]),
+        ('at', lambda *case: told(at(*case)), point_cases() + far_point_cases()),
+        ('on', lambda *case: told(on(*case)), place_cases()),
+        ('down', lambda *case: told(child(*case)), child_cases()),
+        ('step', lambda *case: told(step(*case)), step_cases() + far_step_cases()),
+        ('from', lambda *case: told(offset(*case)), offset_cases()),
+        ('cover', cover_in, [(c[5],) + c[:5] for c in cover_cases() + far_cover_cases()]),
     ]
-    source = ['// The questions, case after case, a number to a line. Written by compare/division.py: edit that, not this.', '']
-    output = [f'last: {max(SCALES)} {LAST_SHEET}']
-    for name, says, cases, questions in lists:
-        source += constant(name, says, cases)
-        output += [ask(*case) for ask in questions for case in rows_of(cases)]
-        print(f'{name}: {len(cases)}')
-    (CRATE / 'src' / 'inputs.rt').write_text('\n'.join(source[:-1]) + '\n', encoding='utf-8')
-    (CRATE / 'stdout').write_text('\n'.join(output) + '\n', encoding='utf-8')
-    print(f'{len(output)} lines')
-
-
-if __name__ == '__main__':
-    main()

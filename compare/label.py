@@ -1,4 +1,3 @@
-#!/usr/bin/env python3
 """A second opinion on the labels: cases, and what must come out of them.
 
 Written from the definition of the sheet division alone (document 01), and not from the code or the specs of
@@ -7,23 +6,11 @@ other, each parent's in turn, so that a sheet's number is nothing but its label'
 that is well formed and stands nowhere in the row is out of range; each field is held against its range too,
 and the two must agree.
 
-    python3 compare/label.py
-
-rewrites crates/label_cases/stdin (a question to a line) and crates/label_cases/stdout (a line for each question
-with its answer). `rt check label_cases` then puts the questions to the library and compares. It needs Python 3
-and nothing else, less than 100 MB and some ten seconds; the same files come out of every run.
-
-A question is a letter and what follows:
-
-    L50-109-11      the sheet of the label, which is all of the line after the letter: any bytes but a line feed
-    S 344 9         the length of the sheet's label; the label in room of so many bytes, and how many keep their mark
-    W 0 23 1        a sum over the labels of the sheets from the first to the last by so many, each read back
-    M50-109-11      a sum over what is read from the label when each of its bytes in turn is changed to each of the 256
+compare/cases.py asks for the cases and their answers, and says what a question looks like.
 """
 import re
-from pathlib import Path
 
-CRATE = Path(__file__).resolve().parent.parent / 'crates' / 'label_cases'
+from lines import Numbers, only_new
 
 # ---- the definition
 
@@ -126,54 +113,24 @@ class Row:
 
 ROW = Row()
 
-# ---- the lines
-
-MODULUS = 1_000_000_007
-MARK = ord('#')
-SWEEP_ROOM = 20
+# ---- the answers, as they are written
 
 
-def mixed(total, numbers):
-    for n in numbers:
-        total = (total % MODULUS * 31 + n % MODULUS) % MODULUS
-    return total
+def told(label):
+    answer = ROW.read(label)
+    return f'refused {-answer}' if answer < 0 else str(answer)
 
 
-def shown(label):
-    """Bytes as text: a number in <> stands for a byte that is not to be seen, and for < itself."""
-    return ''.join(chr(b) if 32 <= b <= 126 and b != ord('<') else f'<{b}>' for b in label)
-
-
-def found(answer):
-    return f'refused {-answer}' if answer < 0 else f'sheet {answer}'
-
-
-def label_line(label):
-    return f'label "{shown(label)}": {found(ROW.read(label))}'
-
-
-def sheet_line(sheet, room):
-    asked = f'sheet {sheet} room {room}: length'
+def write_in(sheet, room):
+    """The length; the label in room of so many bytes, how many keep their mark, and the sheet read back."""
     label = ROW.write(sheet)
+    assert label is None or ROW.read(label) == sheet
     if label is None:
-        return f'{asked} refused 3, refused 3 kept {room}'
-    if len(label) > room:
-        return f'{asked} {len(label)}, refused 10 {len(label)} kept {room}'
-    return f'{asked} {len(label)}, wrote {len(label)} "{shown(label)}" kept {room - len(label)}'
-
-
-def sweep_line(first, last, far):
-    """Of each sheet: the length told, the length written, every byte of the room, the sheet read back."""
-    total = 0
-    for sheet in range(first, last + 1, far):
-        label = ROW.write(sheet)
-        if label is None:
-            total = mixed(total, [3, 3])
-        else:
-            room = label + bytes([MARK] * (SWEEP_ROOM - len(label)))
-            total = mixed(total, [len(label), len(label), *room, ROW.read(label)])
-            assert ROW.read(label) == sheet
-    return f'sweep {first} {last} {far}: sum {total}'
+        return f'refused 3, refused 3  kept {room} {told(b"")}'
+    length = len(label)
+    if length > room:
+        return f'{length}, refused 10 {length}  kept {room} {told(b"")}'
+    return f'{length}, {length} {label.decode()} kept {room - length} {told(label)}'
 
 
 def changes(label):
@@ -181,10 +138,6 @@ def changes(label):
     for place in range(len(label)):
         for byte in range(256):
             yield label[:place] + bytes([byte]) + label[place + 1:]
-
-
-def change_line(label):
-    return f'changes "{shown(label)}": sum {mixed(0, (abs(ROW.read(x)) for x in changes(label)))}'
 
 
 # ---- the questions
@@ -234,23 +187,6 @@ LISTED = '''
 25-4-113: 5 6 7 8 9; 25-4-114: 6 7 8 9; 25-4-115: 6 7 8 9 10; 25-4-116: 7 8 9 10 11; 25-4-117: 8 9 10 11; 25-4-118: 9 10 11 12;
 25-4-119: 10 11 12; 25-4-120: 9 10 11 12 13; 25-4-121: 9 11 12 13 14; 25-4-122: 10 11 12 13 14; 25-4-123: 15; 25-4-124: 10 16;
 '''
-
-
-class Numbers:
-    """A small generator of its own, so that every run asks the same."""
-
-    def __init__(self, seed):
-        self.state = seed
-
-    def below(self, n):
-        self.state = (self.state * 6364136223846793005 + 1442695040888963407) % 2**64
-        return (self.state >> 20) % n
-
-    def between(self, a, b):
-        return a + self.below(b - a + 1)
-
-    def one_of(self, xs):
-        return xs[self.below(len(xs))]
 
 
 def listed():
@@ -389,11 +325,11 @@ def drawn_cases():
     return cases
 
 
-def label_cases():
+def text_cases():
     groups = [document_cases(), five_cases(), order_cases(), large_cases(), field_cases(), count_cases(), length_cases(), byte_cases(), drawn_cases(), listed()]
     cases = [x if isinstance(x, bytes) else x.encode() for group in groups for x in group]
     assert not any(b'\n' in x for x in cases)
-    return list(dict.fromkeys(cases))
+    return only_new(cases)
 
 
 def change_cases():
@@ -410,7 +346,7 @@ def sheets_of_interest():
         else:
             parts = PARENT[scale][1]
             sheets += [first + n for n in (8, 9, 10, 98, 99, 100, parts - 1, parts)]
-    return list(dict.fromkeys(sheets))
+    return only_new(sheets)
 
 
 NONE = [LAST_SHEET + 1, LAST_SHEET + 2, 8_000_000, 2**24, 2**31 - 1, 2**31, 2**32 - 1]
@@ -423,7 +359,7 @@ def room_cases():
         cases += [(sheet, room) for room in (0, length - 1, length, length + 1 + n % 8)]
     cases += [(344, room) for room in range(41)] + [(LAST_SHEET, room) for room in range(12, 41)] + [(0, room) for room in range(12)]
     cases += [(sheet, room) for sheet in NONE for room in (0, 8, 16, 20)]
-    return list(dict.fromkeys(cases))
+    return only_new(cases)
 
 
 def sweep_cases():
@@ -433,26 +369,26 @@ def sweep_cases():
     return cases + [(LAST_SHEET - 20, LAST_SHEET + 20, 1), (2**32 - 6, 2**32 - 1, 1), (0, LAST_SHEET, 1009), (344, 344, 1), (5, 4, 1)]
 
 
-def main():
-    labels, changed, sweeps = label_cases(), change_cases(), sweep_cases()
-    swept = {n for case in sweeps for n in range(case[0], case[1] + 1, case[2])}
-    every = set(labels) | {x for c in changed for x in changes(c)}
-    ROW.spell(every, swept | set(sheets_of_interest()))
+def spell(labels, sheets):
+    """Spells the row of all labels, with an eye on these labels and sheets and on those of the cases."""
+    ROW.spell({*labels, *text_cases()}, {*sheets, *sheets_of_interest()})
     # What is written is read back too.
     for sheet, label in ROW.labels.items():
         assert ROW.sheets.setdefault(label, sheet) == sheet
     assert [ROW.read(x.encode()) for x in EXAMPLES] == EXAMPLE_SHEETS and ROW.read(b'5-4-4-625-130-20') == LAST_SHEET
-    rooms = room_cases()
-    questions = [b'L' + x for x in labels] + [b'S %d %d' % x for x in rooms] + [b'W %d %d %d' % x for x in sweeps] + [b'M' + x for x in changed]
-    answers = [label_line(x) for x in labels] + [sheet_line(*x) for x in rooms] + [sweep_line(*x) for x in sweeps] + [change_line(x) for x in changed]
-    text = b''.join(q + b'\n' for q in questions)
-    assert len(text) < 60 * 1024 and len(questions) == len(answers)
-    (CRATE / 'stdin').write_bytes(text)
-    (CRATE / 'stdout').write_bytes(''.join(a + '\n' for a in answers).encode('ascii'))
-    told = [ROW.read(x) for x in labels]
-    print(f'labels: {len(labels)}, of which {sum(t >= 0 for t in told)} sheets, {told.count(-4)} refused 4, {told.count(-5)} refused 5')
-    print(f'rooms: {len(rooms)}, sweeps: {len(sweeps)} over {len(swept)} sheets, changes: {len(changed)}; {len(questions)} lines, {len(text)} bytes')
 
 
-if __name__ == '__main__':
-    main()
+def is_seen(label):
+    return all(32 <= byte <= 126 for byte in label)
+
+
+def unseen_cases():
+    return [x for x in text_cases() if not is_seen(x)]
+
+
+def kinds():
+    """Of each kind of question: its word, what is answered, and the cases. The row must be spelt before."""
+    return [
+        ('label', lambda label: told(label.encode()), [(x.decode(),) for x in text_cases() if is_seen(x)]),
+        ('write', write_in, room_cases()),
+    ]

@@ -1,4 +1,3 @@
-#!/usr/bin/env python3
 """A second opinion on the shelf lists: cases, and what must come out of them.
 
 Written from the definition of the shelf list alone (document 01), and not from the code or the specs of the crate
@@ -7,31 +6,9 @@ A number is read by trying: it is the one whose spelling the bytes begin with. W
 early if some byte after them would make a spelling, and are badly written otherwise. A list that is read whole must
 be the list written for its sheets, and a beginning of a list must give as many sheets as it has whole entries.
 
-    python3 compare/shelf.py
-
-rewrites crates/shelf_cases/stdin (a question to a line) and crates/shelf_cases/stdout (a line for each question
-with its answer). `rt check shelf_cases` then puts the questions to the library and compares. It needs Python 3
-and nothing else, and some ten seconds; the same files come out of every run.
-
-A question is a letter and what follows, sheets in decimal and lists in hexadecimal:
-
-    G 344                   the groups that the number takes
-    W 8 0 344 7953173       the length of the sheets' list; the list in room of so many bytes, and how many keep their
-                            mark; where it was written, what is read back in room for just these sheets: from the list,
-                            from the list without its last byte, from the list and the byte behind it in the room, and
-                            from the list in room for a sheet less
-    P 9000 0 1 4096         the same for sheets by a rule, told by the first, the step and the count; beyond 32 bits
-                            they start again from 0
-    P 9000 0 1 4096 7 5     the same with another number in a place, here 5 in the seventh
-    R 3 0300d702bc          what is read from the list in room for so many sheets, and how many places keep their mark
-    C 3 0300d702bc          the same for every beginning of the list, from no byte to all
-    M 3 0300d702bc          a sum over what is read when each byte in turn is changed to each of the 256
-    B 0 1 60                a sum over the sets of 0 to 59 sheets by a rule, told by the first and the step, each
-                            written in room for 200 bytes and read back
+compare/cases.py asks for the cases and their answers, and says what a question looks like.
 """
-from pathlib import Path
-
-CRATE = Path(__file__).resolve().parent.parent / 'crates' / 'shelf_cases'
+from lines import LISTED, MARK, Numbers, listed, only_new, summed
 
 # ---- the definition
 
@@ -133,125 +110,68 @@ def read(data, room):
     return None, sheets
 
 
-# ---- the lines
+# ---- the answers, as they are written
 
-MODULUS = 1_000_000_007
-MARK = 238
-NO_SHEET = 2**32 - 1
+# Room for each list in a sum over many.
 SUM_ROOM = 200
 
 
-def mixed(total, numbers):
-    for n in numbers:
-        total = (total % MODULUS * 31 + n % MODULUS) % MODULUS
-    return total
-
-
-def shown_bytes(data):
-    return f'sum {mixed(0, data)}' if len(data) > 40 else data.hex()
-
-
-def shown_sheets(sheets):
-    return f' sum {mixed(0, sheets)}' if len(sheets) > 8 else ''.join(f' {n}' for n in sheets)
-
-
 def reading(data, room):
+    """What is read from the list in room for so many sheets."""
     ended, sheets = read(data, room)
-    return f'{ended or "whole"} placed {len(sheets)}{shown_sheets(sheets)} kept {room - len(sheets)}'
-
-
-def group_line(n):
-    return f'groups {n}: {groups(n)}'
+    return f'from {len(data)} in {room} {ended or "whole"} placed {len(sheets)}{listed(sheets, room)}'
 
 
 def writing(sheets, room):
+    """The length; the list in room of so many bytes; where it was written, what is read back."""
     try:
-        length = f'length {len(write(sheets))}'
+        length = len(write(sheets))
     except Refused as r:
-        return f'length {r}, {r} kept {room}'
+        return f'{r}, {r}  kept {room}'
     try:
         data = write_in(sheets, room)
     except Refused as r:
-        return f'{length}, {r} kept {room}'
-    count, parts = len(sheets), [length, f'wrote {len(data)} {shown_bytes(data)} kept {room - len(data)}']
+        return f'{length}, {r}  kept {room}'
+    count, shown = len(sheets), f'sum {summed([data.hex()])}' if len(data) > LISTED else data.hex()
     assert read(data, count) == (None, sheets)
-    parts += [f'back {reading(data, count)}', f'cut {reading(data[:-1], count)}']
+    parts = [f'{length}, {len(data)} {shown} kept {room - len(data)}', reading(data, count), reading(data[:-1], count)]
     if len(data) < room:
-        parts += [f'more {reading(data + bytes([MARK]), count)}']
+        parts += [reading(data + bytes([MARK]), count)]
     if count > 0:
-        parts += [f'less room {reading(data, count - 1)}']
-    return ', '.join(parts)
+        parts += [reading(data, count - 1)]
+    return ' '.join(parts)
 
 
-def write_line(room, *sheets):
-    return f'write {" ".join(str(n) for n in (room, *sheets))}: {writing(list(sheets), room)}'
+def pack(room, count, *sheets):
+    assert count == len(sheets)
+    return writing(list(sheets), room)
 
 
 def ruled(first, step, count):
     return [(first + i * step) % 2**32 for i in range(count)]
 
 
-def rule_line(room, first, step, count, *other):
+def rule(room, first, step, count, *other):
     sheets = ruled(first, step, count)
     if other and other[0] <= count:
         sheets[other[0] - 1] = other[1]
-    return f'rule {" ".join(str(n) for n in (room, first, step, count, *other))}: {writing(sheets, room)}'
+    return writing(sheets, room)
 
 
-def asked_list(room, data):
-    return f'{room} {data.hex()}' if data else f'{room}'
-
-
-def read_line(room, data):
-    return f'read {asked_list(room, data)}: {reading(data, room)}'
-
-
-def cut_line(room, data):
-    """Where the list is whole, each cut gives as many sheets as it has whole entries."""
+def heads(room, digits):
+    """What is read from each beginning. Where the list is whole, each cut gives as many sheets as it has whole entries."""
+    data = bytes.fromhex(digits)
     ended, sheets = read(data, room)
     if ended is None:
         ends = [len(b''.join(spelt(n) for n in numbers_of(sheets)[:k + 2])) for k in range(len(sheets))]
         for n in range(len(data)):
             cut, placed = read(data[:n], room)
             assert cut.number == 11 and placed == sheets[:sum(end <= n for end in ends)]
-    return f'cuts {asked_list(room, data)}: {", ".join(reading(data[:n], room) for n in range(len(data) + 1))}'
+    return ' '.join(reading(data[:n], room) for n in range(len(data) + 1))
 
 
-def answer(refused):
-    """A refusal in a sum: its number and what it carries; 0 for a list that is whole."""
-    return [refused.number, refused.carried] if refused else [0]
-
-
-def read_in_sum(total, data, room):
-    ended, sheets = read(data, room)
-    return mixed(total, answer(ended) + [len(sheets)] + sheets + [NO_SHEET] * (room - len(sheets)))
-
-
-def change_line(room, data):
-    total = 0
-    for place in range(len(data)):
-        for byte in range(256):
-            total = read_in_sum(total, data[:place] + bytes([byte]) + data[place + 1:], room)
-    return f'changes {asked_list(room, data)}: sum {total}'
-
-
-def sets_line(first, step, many):
-    """Of each set: the length told, the answer of the writer, every byte of the room; where it wrote, what is read back."""
-    total = 0
-    for count in range(many):
-        sheets, data = ruled(first, step, count), None
-        try:
-            total = mixed(total, [len(write(sheets))])
-        except Refused as r:
-            total = mixed(total, answer(r))
-        try:
-            data = write_in(sheets, SUM_ROOM)
-            total = mixed(total, [len(data), *data] + [MARK] * (SUM_ROOM - len(data)))
-        except Refused as r:
-            total = mixed(total, answer(r) + [MARK] * SUM_ROOM)
-        if data is not None:
-            total = read_in_sum(total, data, count)
-    return f'sets {first} {step} {many}: sum {total}'
+def many(first, step, below):
+    return str(summed(f' {writing(ruled(first, step, count), SUM_ROOM)}' for count in range(below)))
 
 
 # ---- the questions
@@ -263,23 +183,6 @@ EXAMPLE_LIST = bytes.fromhex('0300D702BCB3E503')
 CHANGES = [128, 16_384, 2_097_152]
 # Numbers just below, at and just above, with the ends of what a sheet may be.
 EDGES = [0, 1, 2] + [c + d for c in CHANGES for d in (-2, -1, 0, 1)] + [LAST_SHEET - 1, LAST_SHEET]
-
-
-class Numbers:
-    """A small generator of its own, so that every run asks the same."""
-
-    def __init__(self, seed):
-        self.state = seed
-
-    def below(self, n):
-        self.state = (self.state * 6364136223846793005 + 1442695040888963407) % 2**64
-        return (self.state >> 20) % n
-
-    def between(self, a, b):
-        return a + self.below(b - a + 1)
-
-    def one_of(self, xs):
-        return xs[self.below(len(xs))]
 
 
 def rising(draw, count):
@@ -437,30 +340,22 @@ def sets_cases():
     return cases + [(LAST_SHEET + 1, 1, 4), (2**32 - 3, 1, 8), (7, 131_072, 80), (1, 20_000, 80), (3, 1, 100), (0, 1, 0), (0, 1, 1)]
 
 
-def unique(cases):
-    return list(dict.fromkeys(cases))
+def list_cases():
+    return only_new(read_cases() + small_lists() + drawn_lists())
 
 
-def main():
+def kinds():
+    """Of each kind of question: its word, what is answered, and the cases."""
     assert write(EXAMPLE) == EXAMPLE_LIST and write([]) == b'\x00'
     ended, placed = read(EXAMPLE_LIST[:5], 3)
     assert ended.number == 11 and len(placed) == 2
     assert len(HUNDRED) == 100 and {groups(n) for n in numbers_of(HUNDRED)} == {1, 2, 3, 4}
     assert all(any(a < sheet <= b for sheet in HUNDRED) for a, b in zip([-1] + LASTS, LASTS))
-    kinds = [('G', group_line, group_cases()), ('W', write_line, write_cases() + faulty_cases() + drawn_sets()), ('R', read_line, read_cases() + small_lists() + drawn_lists())]
-    kinds += [('C', cut_line, cut_cases()), ('P', rule_line, rule_cases()), ('B', sets_line, sets_cases()), ('M', change_line, change_cases())]
-    questions, answers, told = [], [], []
-    for letter, line, cases in kinds:
-        for case in unique(cases):
-            questions += [f'{letter} {asked_list(*case)}' if letter in 'RCM' else f'{letter} {" ".join(str(n) for n in case)}']
-            answers += [line(*case)]
-        told += [f'{letter} {len(unique(cases))}']
-    text = ''.join(q + '\n' for q in questions)
-    assert len(text) < 60 * 1024 and len(questions) == len(set(questions))
-    (CRATE / 'stdin').write_text(text)
-    (CRATE / 'stdout').write_text(''.join(a + '\n' for a in answers))
-    print(f'{", ".join(told)}; {len(questions)} lines, {len(text)} bytes')
-
-
-if __name__ == '__main__':
-    main()
+    packs = only_new(write_cases() + faulty_cases() + drawn_sets())
+    return [
+        ('groups', lambda n: str(groups(n)), group_cases()),
+        ('pack', pack, [(room, len(sheets), *sheets) for room, *sheets in packs]),
+        ('heads', heads, [(room, data.hex()) for room, data in only_new(cut_cases())]),
+        ('rule', rule, only_new(rule_cases())),
+        ('many', many, only_new(sets_cases())),
+    ]

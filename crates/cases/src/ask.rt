@@ -1,0 +1,63 @@
+// The lines of the input, and the kinds of question.
+use crate::labels;
+use crate::lists;
+use crate::sheets;
+use crate::write;
+use crate::write::OUT;
+
+pub fn lines(text: &[u8]) {
+    let mut start = 0;
+    let mut i = 0;
+    while i < text.len() {
+        if text[i] == b'\n' {
+            line(&text[start..i]);
+            start = i + 1;
+        }
+        i += 1;
+    }
+}
+
+fn line(s: &[u8]) {
+    write::text(write::text(OUT, s), b":");
+    answer(kind(s), s);
+    write::text(OUT, b"\n");
+}
+
+// The first letter of a question.
+fn kind(s: &[u8]) -> u8 {
+    if s.len() > 0 { s[0] } else { 0 }
+}
+
+fn answer(kind: u8, s: &[u8]) {
+    match kind {
+        b't' => sheets::table(s),
+        b'n' => sheets::number(s),
+        b'a' => sheets::at(s),
+        b'o' => sheets::on(s),
+        b'd' => sheets::down(s),
+        b's' => sheets::step(s),
+        b'f' => sheets::from(s),
+        b'c' => sheets::cover(s),
+        _ => other(kind, s),
+    }
+}
+
+fn other(kind: u8, s: &[u8]) {
+    match kind {
+        b'l' => labels::label(s),
+        b'w' => labels::lent(s),
+        b'e' => labels::every(s),
+        b'g' => lists::groups(s),
+        b'p' => lists::pack(s),
+        b'r' => lists::rule(s),
+        b'b' => lists::bytes(s),
+        b'h' => lists::heads(s),
+        b'v' => lists::vary(s),
+        b'm' => lists::many(s),
+        _ => none(),
+    }
+}
+
+fn none() {
+    write::text(OUT, b" no such question");
+}
