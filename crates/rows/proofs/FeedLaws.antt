@@ -12,7 +12,8 @@ use lib.Seq.{take-at, drop-append-add, drop-drop, length-take-le, take-all}
 use Rattle.label.specs.Text.{split, onFirst}
 use Rattle.label.proofs.SplitLaws.{Free, split-piece, split-last}
 use Rattle.rows.specs.Program.{linesOf, outputLine, outputFrom}
-use Rattle.rows.specs.Rows.{allButLast, endedLines, firstLine, linesDone, bytesOf, Wrote, Rows, lastRow}
+use Rattle.rows.specs.Rows.{allButLast, endedLines, linesDone, bytesOf, Wrote, Rows, lastRow}
+use Rattle.rows.specs.Given.{firstLine}
 use Rattle.rows.proofs.WriteLaws.{then, same-long, wrote-none}
 
 -- ---- bytes with a line feed in them, or none

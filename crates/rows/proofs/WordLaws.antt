@@ -23,7 +23,7 @@ use Rattle.division.proofs.GridLaws.{wide-in, high-in, north-is}
 use Rattle.label.specs.Text.{text, join, decimal}
 use Rattle.catalogue.specs.Line.{readLine}
 use Rattle.rows.specs.Program.{metres, frameWords, words, outputLine}
-use Rattle.rows.specs.Rows.{spaced, Short, Framed}
+use Rattle.rows.specs.Given.{spaced, Short, Framed}
 use Rattle.label.proofs.DecimalLaws.{decimal-most}
 
 -- ---- words behind spaces

@@ -10,7 +10,8 @@ use lib.Seq.{getD-append-add, getD-drop, getD-take, set-split, take-at, drop-app
 use Rattle.label.specs.Text.{decimal}
 use Rattle.label.proofs.DecimalLaws.{decimal-more}
 use Rattle.label.proofs.SizeLaws.{decimal-2}
-use Rattle.rows.specs.Rows.{pair, Wrote, keptOf}
+use Rattle.rows.specs.Rows.{Wrote, keptOf}
+use Rattle.rows.specs.Given.{pair}
 
 -- ---- text in room
 

@@ -1,17 +1,11 @@
 -- The rows of a block of input: the program works block by block, in bounded room. Document 01, "The program".
-use Prim.Native.Nat.{ℕ, _+_, _-_, _/_, _%_, _≤_, _<_, _^_}
+use Prim.Native.Nat.{ℕ, _+_, _-_, _≤_, _<_, _^_}
 use Prim.Native.Char.{code}
 use mathlib.Core.Path.{_≡_}
-use mathlib.Core.Bool.{true, cond, _&&_}
-use mathlib.Core.List.{List, [], _∷_, _++_, flatMap}
-use lib.IntN.{ℤ, pos, natAbs}
-use lib.ListN.{length, getD, take, drop}
-use Rattle.refusal.specs.Paper.{answer}
-use Rattle.division.specs.declared.Edges.{Edges}
-use Rattle.division.specs.declared.Found.{Found}
-use Rattle.division.specs.Words.{_≤?_, _<?_, _≤ᶻ_}
-use Rattle.division.specs.Sheet.{isSheet}
-use Rattle.division.specs.Answers.{sheetPaper}
+use mathlib.Core.Bool.{cond, _&&_}
+use mathlib.Core.List.{List, [], _∷_, _++_}
+use lib.ListN.{length, take, drop}
+use Rattle.division.specs.Words.{_≤?_, _<?_}
 use Rattle.label.specs.Text.{split}
 use Rattle.rows.specs.declared.feed.Fed.{Fed}
 use Rattle.rows.specs.Program.{outputLine, outputFrom}
@@ -71,45 +65,3 @@ pub data Run : ℕ → List ℕ → List (List ℕ) → List ℕ → Type 0 wher
   keeps : {n : ℕ} {held : List ℕ} {blocks : List (List ℕ)} {out : List ℕ} → endedLines held ≡ [] → Run n (take 66 held) blocks out → Run n held blocks out
   -- at the end of the input the row of such a line is printed
   ends : {n : ℕ} {held : List ℕ} (room : ℕ) → 64 ≤ room → endedLines held ≡ [] → Run n held [] (lastRow room n held)
-
--- ---- what the inner functions take for granted and give
-
--- the line at the front of some bytes, up to its line feed or their end
-abbrev pub firstLine : List ℕ → List ℕ
-firstLine bytes = getD (split (code "\n") bytes) 0 []
-
--- words, each behind a space
-abbrev pub spaced : List (List ℕ) → List ℕ
-spaced ws = flatMap (λ other. code " " ∷ other) ws
-
--- two digits
-abbrev pub pair : ℕ → List ℕ
-pair v = (48 + v / 10) ∷ (48 + v % 10) ∷ []
-
--- a number below so many, and room for so many bytes
-pub record Small (most v size at room : ℕ) : Type 0 where
-  pub few : v < most
-  pub fits : at + size ≤ room
-
--- an edge that is not negative and has at most seven digits in metres
-pub record Short (x : ℤ) : Type 0 where
-  pub plain : (pos 0 ≤ᶻ x) ≡ true
-  pub few : natAbs x / 1_000 < 10_000_000
-
--- and room for it behind a space
-pub record Edge (x : ℤ) (at room : ℕ) : Type 0 where
-  pub short : Short x
-  pub fits : at + 8 ≤ room
-
--- four of them
-pub record Framed (e : Edges) (at room : ℕ) : Type 0 where
-  pub west : Short (e .west)
-  pub east : Short (e .east)
-  pub south : Short (e .south)
-  pub north : Short (e .north)
-  pub fits : at + 32 ≤ room
-
--- a sheet's answer or a refusal, and room for the rest of its row
-pub record Answered (found : Found) (at room : ℕ) : Type 0 where
-  pub sheet : (n : ℕ) → sheetPaper found ≡ answer n → isSheet n ≡ true
-  pub fits : at + 40 ≤ room

@@ -4,7 +4,8 @@ use catalogue::piece::piece_end;
 ghost use mathlib.Core.Path.{_≡_};
 ghost use Prim.Native.Nat.{_-_, min};
 ghost use lib.ListN.{length};
-ghost use Rattle.rows.specs.Rows.{firstLine, Wrote, Rows, lastRow, keptOf};
+ghost use Rattle.rows.specs.Rows.{Wrote, Rows, lastRow, keptOf};
+ghost use Rattle.rows.specs.Given.{firstLine};
 
 // What was made of a block: the bytes of it that were used, the bytes written, and the number of the next line.
 pub struct Fed {

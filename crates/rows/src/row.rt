@@ -12,7 +12,8 @@ ghost use Rattle.label.specs.Text.{decimal};
 ghost use Rattle.division.specs.Answers.{sheetPaper};
 ghost use Rattle.refusal.specs.Numbers.{onPaper};
 ghost use Rattle.rows.specs.Program.{metres, frameWords, words, outputLine};
-ghost use Rattle.rows.specs.Rows.{spaced, pair, Wrote, Small, Edge, Framed, Answered};
+ghost use Rattle.rows.specs.Rows.{Wrote};
+ghost use Rattle.rows.specs.Given.{spaced, pair, Small, Edge, Framed, Answered};
 
 // Each of the functions that put something into the room gives the place behind it.
 fn put_byte(b: u8, out: &mut [u8], at: usize) -> usize

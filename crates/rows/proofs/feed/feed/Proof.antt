@@ -6,7 +6,8 @@ use Prim.Native.Nat.{ℕ, _+_, _-_, _<_}
 use native.Mathlib.Omega.{arith}
 use lib.ListN.{length, drop, length-drop}
 use lib.Seq.{length-take-le}
-use Rattle.rows.specs.Rows.{endedLines, firstLine}
+use Rattle.rows.specs.Rows.{endedLines}
+use Rattle.rows.specs.Given.{firstLine}
 use Rattle.catalogue.proofs.PieceLaws.{piece-within}
 use Rattle.rows.proofs.FeedLaws.{Going, going-first, going-on, going-end, rest-is, line-none, done-full, done-numbered, done-none}
 use Rattle.rows.proofs.feed.feed.Statement.{statement}

@@ -8,7 +8,7 @@ use borrow.Fn.Kinds.{In}
 use borrow.Fn.PlainCycle.{Measures, is, falls, and}
 use lib.ListN.{length, length-append}
 use Rattle.label.specs.Text.{decimal}
-use Rattle.rows.specs.Rows.{pair}
+use Rattle.rows.specs.Given.{pair}
 use Rattle.rows.proofs.WriteLaws.{decimal-four, then}
 use Rattle.rows.proofs.row.put_number.Reads as put-number
 use Rattle.rows.proofs.row.put_number.Kinds as put-number-kinds
