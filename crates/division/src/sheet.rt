@@ -66,9 +66,11 @@ fn child_place(k: u32, up: Place, number: u32) -> Place
     ensures { λ r. ⌜ r ≡ childPlace k up number ⌝ }
 {
     let j = number - 1;
+    let down = j / k;
+    let across = j % k;
     Place {
-        row: up.row * k + j / k,
-        column: up.column * k + j % k,
+        row: up.row * k + down,
+        column: up.column * k + across,
     }
 }
 
