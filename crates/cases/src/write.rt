@@ -91,7 +91,7 @@ pub fn signed(to: u64, x: i64) -> u64 {
 pub fn refused(to: u64, r: Refusal) -> u64 {
     let n = r.numbered();
     let t = named(to, b" refused", n.0 as u64);
-    if n.0 == 10 { number(t, n.1 as u64) } else { t }
+    if n.2 { number(t, n.1 as u64) } else { t }
 }
 
 pub fn found(to: u64, f: Found) -> u64 {

@@ -1,22 +1,21 @@
 -- What the line reader's loops and ways out use: bytes that all pass a test, and a line with and without a name. Assumes nothing.
-use mathlib.Core.Path.{_≡_, refl}
+use mathlib.Core.Path.{_≡_, refl, sym, _∙_}
 use mathlib.Core.Bool.{Bool, true, false}
 use mathlib.Core.List.{List}
-use Prim.Native.Nat.{ℕ, _+_, _-_, _≤_, _<_}
+use mathlib.Core.Logic.{⊎-elim}
+use Prim.Native.Nat.{ℕ, _+_, _-_, _≤_, _<_, min}
 use native.Mathlib.Numerals.{add-one}
 use native.Mathlib.Omega.{arith}
-use borrow.Author.Tests.{lt-ltb, le-ltb}
-use lib.ListN.{length, getD, take, drop, length-drop, drop-of-length-le}
+use borrow.Author.Tests.{lt-ltb, le-ltb, le-leb, lt-leb}
+use lib.ListN.{length, getD, take, drop, length-take, length-drop, drop-of-length-le}
 use lib.Seq.{take-all, drop-cons}
-use Rattle.refusal.specs.Paper.{Paper, answer, refused, refuse_unless_, _>>_, _>>=_}
-use Rattle.division.specs.Words.{_≤?_}
-use Rattle.division.specs.Sheet.{scaleOf, scaleIn}
+use Rattle.refusal.specs.Paper.{Paper, answer, refused, isAnswer, _>>=_}
+use Rattle.division.proofs.TestLaws.{le-or-less}
 use Rattle.label.specs.Text.{every}
-use Rattle.label.specs.Label.{readLabel}
-use Rattle.label.proofs.LabelTheorems.{was-written}
-use Rattle.catalogue.specs.Line.{labelIn, nameIn, isName, readLine}
-use Rattle.catalogue.specs.Given.{withName, namedPaper}
-use Rattle.catalogue.proofs.PieceLaws.{take-piece, piece-within}
+use Rattle.label.specs.Label.{wellFormed, readLabel}
+use Rattle.catalogue.specs.Line.{labelIn, nameIn, readLine}
+use Rattle.catalogue.specs.Given.{namedPaper}
+use Rattle.catalogue.proofs.PieceLaws.{take-piece, piece-within, piece-take}
 
 -- ---- the label is a beginning of the line, and the name its end
 
@@ -28,27 +27,65 @@ pub label-within : (line : List ℕ) → length (labelIn line) ≤ length line
 unfolding labelIn
 label-within line = piece-within 32 line
 
-pub name-taken : (line : List ℕ) → take (length line - (length (labelIn line) + 1)) (nameIn line) ≡ nameIn line
+pub label-cut : (n : ℕ) (line : List ℕ) → labelIn (take n line) ≡ take n (labelIn line)
+unfolding labelIn
+label-cut n line = piece-take 32 n line
+
+name-taken : (line : List ℕ) → take (length line - (length (labelIn line) + 1)) (nameIn line) ≡ nameIn line
 name-taken line =
     take-all (length line - (length (labelIn line) + 1)) (nameIn line) (omega (arith, length-drop (length (labelIn line) + 1) line))
 
--- ---- a line without a name is read as its label, and one with a name as what its label has found, with the name behind it
+-- ---- a label of more than 16 bytes is refused, and so is its line
 
-pub read-bare : (line : List ℕ) → length (labelIn line) ≡ length line → readLine line ≡ readLabel (labelIn line)
+long-formed : (label : List ℕ) → 16 < length label → readLabel label ≡ refused 4 0
+unfolding readLabel wellFormed
+long-formed label h = rw (le-leb 1 (length label) (omega arith), lt-leb (length label) 16 h)
+
+pub long-label : (line : List ℕ) → 16 < length (labelIn line) → readLine line ≡ refused 4 0
 unfolding readLine
-read-bare line e = rw (le-ltb (length (labelIn line)) (length line) (omega arith)) (by (readLabel (labelIn line)))
+long-label line h = rw (long-formed (labelIn line) h)
+
+pub short-label : (line : List ℕ) → isAnswer (readLine line) ≡ true → length (labelIn line) ≤ 16
+short-label line e = ⊎-elim (λ h. h) (λ h. absurd (no-answer h)) (le-or-less (length (labelIn line)) 16)
   where
-    by : (p : Paper ℕ) → (p >>= λ n. answer n) ≡ p
+    no-answer : 16 < length (labelIn line) → ⊥
+    no-answer h = let z : false ≡ true = rw (long-label line h) at e in let o : _≡_ {A = ℕ} 0 1 = cc in omega arith
+
+-- ---- a line is read by what stands before its first space among the first 17 bytes, and what stands behind that
+
+abbrev pub endOf : List ℕ → ℕ
+endOf line = min 17 (length (labelIn line))
+
+pub end-within : (line : List ℕ) → endOf line ≤ length line
+end-within line = omega (arith, label-within line)
+
+-- where that is all of the line, the line is its label
+pub read-bare : (line : List ℕ) → endOf line ≡ length line → readLabel (take (endOf line) line) ≡ readLine line
+unfolding readLine
+read-bare line e =
+    let f : length (labelIn line) ≡ length line = omega (arith, label-within line) in
+    let g : labelIn line ≡ line = sym (label-taken line) ∙ rw f (take-all (length line) line (omega arith)) in
+    rw (e, take-all (length line) line (omega arith), le-ltb (length (labelIn line)) (length line) (omega arith), g) (by (readLabel line))
+  where
+    by : (p : Paper ℕ) → p ≡ (p >>= λ n. answer n)
     by (answer n) = refl
     by (refused n v) = refl
 
-pub read-named : (line : List ℕ) → length (labelIn line) < length line → readLine line ≡ namedPaper (readLabel (labelIn line)) (nameIn line)
-unfolding readLine withName
-read-named line h = rw (lt-ltb (length (labelIn line)) (length line) h) (by (readLabel (labelIn line)) refl)
+-- and where it is not, what follows the space is the name
+pub read-named : (line : List ℕ) → endOf line < length line → namedPaper (readLabel (take (endOf line) line)) (take (length line - (endOf line + 1)) (drop (endOf line + 1) line)) ≡ readLine line
+unfolding readLine
+read-named line h = ⊎-elim short long (le-or-less (length (labelIn line)) 16)
   where
-    by : (p : Paper ℕ) → readLabel (labelIn line) ≡ p → (p >>= λ n. (refuse 17 unless scaleOf n ≤? 6) >> ((refuse 16 unless isName (nameIn line)) >> answer n)) ≡ (p >>= λ n. (refuse 17 unless scaleIn n ≤? 6) >> ((refuse 16 unless isName (nameIn line)) >> answer n))
-    by (answer n) e = rw (was-written (labelIn line) n e .sheet)
-    by (refused n v) e = refl
+    short : length (labelIn line) ≤ 16 → namedPaper (readLabel (take (endOf line) line)) (take (length line - (endOf line + 1)) (drop (endOf line + 1) line)) ≡ readLine line
+    short l =
+        let e : endOf line ≡ length (labelIn line) = omega arith in
+        rw (e, label-taken line, name-taken line, lt-ltb (length (labelIn line)) (length line) (omega arith))
+
+    long : 16 < length (labelIn line) → namedPaper (readLabel (take (endOf line) line)) (take (length line - (endOf line + 1)) (drop (endOf line + 1) line)) ≡ readLine line
+    long l =
+        let e : endOf line ≡ 17 = omega arith in
+        let f : length (take 17 line) ≡ 17 = length-take 17 line ∙ omega (arith, label-within line) in
+        rw (e, long-formed (take 17 line) (omega (arith, f)), long-label line l)
 
 -- ---- a loop over the bytes, which has come to place i
 

@@ -1,7 +1,7 @@
 -- What decides a line's answer, and that the promises of this crate leave one answer: a label of more than 16 bytes and a name of more
 -- than 48 are refused however they go on, and a part is told by its bytes and its place. Assumes nothing.
 use mathlib.Core.Path.{_≡_, refl, sym, ap, _∙_}
-use mathlib.Core.Bool.{Bool, true, false, not, _||_}
+use mathlib.Core.Bool.{Bool, true, false, cond}
 use mathlib.Core.List.{List}
 use mathlib.Core.Logic.{⊎-elim}
 use Prim.Native.Nat.{ℕ, _+_, _≤_, _<_}
@@ -11,21 +11,17 @@ use lib.ListN.{length, take, length-take, length-drop}
 use lib.Seq.{take-all}
 use denote.Ref.{RefT, ptr, now}
 use Rattle.refusal.specs.Paper.{Paper, answer, refused, refuse_unless_, _>>_, _>>=_}
-use Rattle.refusal.proofs.PaperLaws.{passed}
+use Rattle.refusal.proofs.PaperLaws.{passed, found}
 use Rattle.division.specs.Words.{_≤?_}
 use Rattle.division.specs.Sheet.{isSheet, scaleOf}
 use Rattle.division.proofs.TestLaws.{le-or-less}
-use Rattle.label.specs.Label.{wellFormed, readLabel}
+use Rattle.label.specs.Label.{readLabel}
 use Rattle.label.proofs.LabelTheorems.{was-written}
-use Rattle.catalogue.specs.Line.{labelIn, hasName, nameIn, isName, readLine, Tells}
+use Rattle.catalogue.specs.Line.{labelIn, hasName, nameIn, isName, withName, readLine, Tells}
 use Rattle.catalogue.specs.Parts.{Part, Caption, ofLine, ofFallback, IsPart, IsCaption}
-use Rattle.catalogue.proofs.PieceLaws.{piece-take}
+use Rattle.catalogue.proofs.LineLaws.{label-cut, long-label}
 
 -- ---- only the first 66 bytes of a line and where it ends decide its answer
-
-long-label : (line : List ℕ) → 16 < length (labelIn line) → readLine line ≡ refused 4 0
-unfolding readLine readLabel wellFormed
-long-label line h = rw (le-leb 1 (length (labelIn line)) (omega arith), lt-leb (length (labelIn line)) 16 h)
 
 long-name : (name : List ℕ) → 48 < length name → isName name ≡ false
 unfolding isName
@@ -36,14 +32,10 @@ abbrev tooLong : Paper ℕ → Paper ℕ
 tooLong found = found >>= λ n. (refuse 17 unless scaleOf n ≤? 6) >> refused 16 0
 
 named-long : (line : List ℕ) → length (labelIn line) + 49 < length line → readLine line ≡ tooLong (readLabel (labelIn line))
-unfolding readLine
+unfolding readLine withName
 named-long line h =
     let l : 48 < length (nameIn line) = omega (arith, length-drop (length (labelIn line) + 1) line) in
     rw (lt-ltb (length (labelIn line)) (length line) (omega arith), long-name (nameIn line) l)
-
-label-cut : (n : ℕ) (line : List ℕ) → labelIn (take n line) ≡ take n (labelIn line)
-unfolding labelIn
-label-cut n line = piece-take 32 n line
 
 -- a label of 16 bytes or fewer is not cut, and the name behind it is too long with the cut as without it
 short-cut : (line : List ℕ) → 66 ≤ length line → length (labelIn line) ≤ 16 → readLine line ≡ readLine (take 66 line)
@@ -67,12 +59,14 @@ same-66 a b h l e = first-66 a h ∙ ap readLine e ∙ sym (first-66 b l)
 -- ---- an accepted line's sheet is its label's
 
 pub label-answers : (line : List ℕ) (n : ℕ) → readLine line ≡ answer n → readLabel (labelIn line) ≡ answer n
-unfolding readLine
-label-answers line n e = by (readLabel (labelIn line)) (λ m. not (hasName line) || scaleOf m ≤? 6) (not (hasName line) || isName (nameIn line)) e
+unfolding readLine withName
+label-answers line n e =
+    let f = found (readLabel (labelIn line)) (λ m. cond (hasName line) (withName (nameIn line) m) (answer m)) e in
+    f .1 ∙ by (hasName line) (f .0) (f .2)
   where
-    by : (p : Paper ℕ) (a : ℕ → Bool) (b : Bool) → (p >>= λ m. (refuse 17 unless a m) >> ((refuse 16 unless b) >> answer m)) ≡ answer n → p ≡ answer n
-    by (answer m) a b f = passed 16 b (answer m) (passed 17 (a m) ((refuse 16 unless b) >> answer m) f .1) .1
-    by (refused k v) a b f = f
+    by : (named : Bool) (m : ℕ) → cond named (withName (nameIn line) m) (answer m) ≡ answer n → answer m ≡ answer n
+    by true m g = passed 16 (isName (nameIn line)) _ (passed 17 (scaleOf m ≤? 6) _ g .1) .1
+    by false m g = g
 
 pub line-sheet : (line : List ℕ) (n : ℕ) → readLine line ≡ answer n → isSheet n ≡ true
 line-sheet line n e = was-written (labelIn line) n (label-answers line n e) .sheet

@@ -2,7 +2,7 @@
 use Prim.Native.Nat.{ℕ, _+_, _-_}
 use Prim.Native.Char.{code}
 use mathlib.Core.Path.{_≡_}
-use mathlib.Core.Bool.{Bool, true, false, not, _&&_, _||_}
+use mathlib.Core.Bool.{Bool, true, false, not, cond, _&&_}
 use mathlib.Core.List.{List, []}
 use lib.ListN.{length, getD, drop}
 use Rattle.refusal.specs.Paper.{Paper, answer, refuse_unless_, _>>_, _>>=_}
@@ -32,13 +32,18 @@ isName name =
     (between 1 48 (length name) && every isNameByte name) &&
     (not (getD name 0 0 =? code " ") && not (getD name (length name - 1) 0 =? code " "))
 
+-- "Scales 1 to 6 may have one"
+unfoldable pub withName : List ℕ → ℕ → Paper ℕ
+withName name n = do
+  refuse 17 unless scaleOf n ≤? 6
+  refuse 16 unless isName name
+  answer n
+
 -- "Line: 4, 5, 17, 16"
 unfoldable pub readLine : List ℕ → Paper ℕ
 readLine line = do
   n ← readLabel (labelIn line)
-  refuse 17 unless not (hasName line) || scaleOf n ≤? 6
-  refuse 16 unless not (hasName line) || isName (nameIn line)
-  answer n
+  cond (hasName line) (withName (nameIn line) n) (answer n)
 
 -- "Two names are the same when their bytes are the same"
 abbrev pub SameName : List ℕ → List ℕ → Type 0

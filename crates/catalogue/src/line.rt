@@ -5,18 +5,22 @@ use division::table::Scale;
 use label::reading::read_label;
 use refusal::Refusal;
 ghost use mathlib.Core.Path.{_≡_};
+ghost use Prim.Native.Nat.{min};
 ghost use lib.ListN.{length};
 ghost use Rattle.division.specs.Answers.{sheetPaper};
 ghost use Rattle.division.specs.Words.{between};
 ghost use Rattle.label.specs.Text.{every};
-ghost use Rattle.catalogue.specs.Line.{labelIn, isNameByte, isName, readLine, SameName, Tells};
-ghost use Rattle.catalogue.specs.Given.{withName, namedPaper};
+ghost use Rattle.catalogue.specs.Line.{labelIn, isNameByte, isName, withName, readLine, SameName, Tells};
+ghost use Rattle.catalogue.specs.Given.{namedPaper};
 
-// Where a line's label ends: at its first space, or at the line's end.
+// Where a line's label ends: at its first space, or at the line's end. No label has 17 bytes, so the search ends there.
 pub(crate) fn label_end(line: &[u8]) -> usize
-    ensures { λ r. ⌜ r ≡ length (labelIn (now (line .entry))) ⌝ }
+    ensures { λ r. ⌜ r ≡ min 17 (length (labelIn (now (line .entry)))) ⌝ }
 {
-    piece_end(line, b' ')
+    if line.len() <= 17 {
+        return piece_end(line, b' ');
+    }
+    piece_end(&line[..17], b' ')
 }
 
 fn is_name_length(n: usize) -> bool
@@ -58,7 +62,7 @@ fn is_name(name: &[u8]) -> bool
 
 // A sheet with a name behind its label. Both tests stand before the refusals, which keep the paper's order: 17, then 16.
 fn with_name(sheet: u32, name: &[u8]) -> Found
-    ensures { λ r. ⌜ sheetPaper r ≡ withName sheet (now (name .entry)) ⌝ }
+    ensures { λ r. ⌜ sheetPaper r ≡ withName (now (name .entry)) sheet ⌝ }
 {
     let s = Scale::of(sheet).0;
     let scaled = s <= 6;

@@ -1,37 +1,35 @@
 -- The three demands hold: each of their propositions is what the theorems of the crates below say. Assumes nothing.
 use mathlib.Core.Path.{_≡_, refl, sym, ap, _∙_, subst}
-use mathlib.Core.Bool.{not, _||_}
 use mathlib.Core.List.{List, [], _∷_}
 use Prim.Native.Nat.{ℕ, _+_, _/_}
 use native.Mathlib.Omega.{arith}
 use borrow.Author.Tests.{le-leb, lt-leb, leb-true, eq-eqb}
 use lib.ListN.{length, take}
-use Rattle.refusal.specs.Paper.{answer}
-use Rattle.refusal.proofs.PaperLaws.{passed}
+use Rattle.refusal.specs.Paper.{answer, laid}
+use Rattle.refusal.proofs.PaperLaws.{passed, passed-judge}
 use Rattle.division.specs.Words.{_≤?_, _=?_}
-use Rattle.division.specs.Table.{rows, columns, isScale, parentScale, parts, perParent, first}
+use Rattle.division.specs.Table.{rows, columns, isScale, parentScale, parts, first}
 use Rattle.division.specs.Grid.{area, owns, within}
 use Rattle.division.specs.Sheet.{isSheet, scaleOf, placeOf, groundOf, indexOf, partIndex, onGrid, locate, sheetOn, sheetAt, cornersOf}
 use Rattle.division.specs.Relations.{isPart, parent, child, stays, walk, step, offset}
-use Rattle.division.specs.Cover.{sheetsIn, isWindow, cover}
-use Rattle.division.specs.Given.{Seen}
+use Rattle.division.specs.Cover.{sheetsIn, coverable, cover}
 use Rattle.division.proofs.TableLaws.{scale}
 use Rattle.division.proofs.NumberLaws.{on-grid}
 use Rattle.division.proofs.PointTheorems as point
 use Rattle.division.proofs.GroundTheorems.{as-wide, as-high}
 use Rattle.division.proofs.SheetTheorems as sheet
 use Rattle.division.proofs.RelationTheorems as relation
+use Rattle.division.proofs.CoverLaws.{is-coverable}
 use Rattle.division.proofs.CoverTheorems as covering
 use Rattle.label.specs.Label.{labelOf, writeLabel, labelLength}
 use Rattle.label.proofs.FieldLaws.{in-between}
 use Rattle.label.proofs.WritingTheorems.{labels-sized, labels-plain}
 use Rattle.label.proofs.LabelTheorems as label
-use Rattle.catalogue.specs.Line.{labelIn, hasName, nameIn, isName, readLine}
 use Rattle.shelf.specs.Writing.{listBytes, writeList, listLength}
 use Rattle.shelf.specs.Reading.{readList}
 use Rattle.shelf.proofs.ListTheorems as list
 use Rattle.demands.specs.Demands.{answers, RefusalsNumbered, RoomKept, PlacedKept, CountNeedsRoom, TableAddsUp, EachPointInOneSheet, OutsideInNone, EachSheetHasCorners, SheetIsLocated, LocatedIsSheet, EachLabelReadsBack, AcceptedLabelIsWritten, FirstScalesHaveNone, OtherScalesHaveParent, ChildIsNumbered, EachChildIsThere, ChildHasParent, ParentHasChild, StepGoes, OffsetLeads, StepIsOffset, NeighboursAreAround, RefusedSheetHasNone, Covers, CoverIsWhatShares, EachWindowHasCover, EachSetIsWritten, OnlySetsAreWritten, EachListReadsBack, OneGroundOneSpelling, OneSetOneList, AcceptedListIsWritten, CutEndsEarly}
-use Rattle.demands.proofs.GivesLaws.{test-gives, then-gives, line-gives, found-gives, read-gives, room-gives, laid-gives, label-gives, set-gives, number-gives, entries-give}
+use Rattle.demands.proofs.GivesLaws.{test-gives, then-gives, line-gives, read-gives, room-gives, laid-gives, label-gives, line-of-gives, cover-gives, set-gives, number-gives, entries-give}
 use Rattle.demands.proofs.RoomLaws.{fills, laid-fits, laid-same, laid-keeps, line-keeps, then-keeps, list-short, list-enough}
 use Rattle.demands.proofs.SetLaws.{set-passes, passes-set, set-written, written-set, placed-set, placed-fits, all-bytes}
 use Rattle.demands.proofs.SheetLaws.{rules, offset-steps, label-written}
@@ -39,7 +37,7 @@ use Rattle.demands.proofs.SheetLaws.{rules, offset-steps, label-written
 -- ==== Demand 1
 
 pub refusals-numbered : RefusalsNumbered
-unfolding sheetAt locate sheetOn cornersOf parent child step walk offset cover writeLabel labelLength readLine writeList listLength readList
+unfolding sheetAt locate sheetOn cornersOf parent child step walk offset cover writeLabel labelLength writeList listLength readList
 refusals-numbered = record {
   points = λ s e n. line-gives 2 (isScale s) refl (line-gives 1 (owns area e n) refl answers);
   corners = λ n. line-gives 3 (isSheet n) refl answers;
@@ -52,15 +50,11 @@ refusals-numbered = record {
       let r = stays (placeOf n .row) south (rows (scaleOf n)) in
       line-gives 3 (isSheet n) refl (line-gives 6 c refl (line-gives 6 r refl answers));
   offsets = λ a b. line-gives 3 (isSheet a) refl (line-gives 3 (isSheet b) refl (line-gives 6 (scaleOf a =? scaleOf b) refl answers));
-  covers = λ s w room.
-      line-gives 2 (isScale s) refl (line-gives 7 (isWindow w) refl (line-gives 8 (within area w) refl
-      (line-gives 9 (length (sheetsIn s w) ≤? 4_096) refl (laid-gives (sheetsIn s w) room refl))));
+  covers = λ s w room. then-gives (cover-gives refl refl refl refl s w) (laid-gives (sheetsIn s w) room refl);
   labels = label-gives refl refl;
   labelled = λ n room. line-gives 3 (isSheet n) refl (laid-gives (labelOf n) room refl);
   measured = λ n. line-gives 3 (isSheet n) refl answers;
-  lines = λ line.
-      found-gives (label-gives refl refl (labelIn line)) λ n.
-      line-gives 17 (not (hasName line) || scaleOf n ≤? 6) refl (line-gives 16 (not (hasName line) || isName (nameIn line)) refl answers);
+  lines = line-of-gives refl refl refl refl;
   lists = λ sheets room. then-gives (set-gives refl refl refl sheets) (laid-gives (listBytes sheets) room refl);
   sized = λ sheets. then-gives (set-gives refl refl refl sheets) answers;
   reading = λ bytes room.
@@ -73,9 +67,7 @@ refusals-numbered = record {
 pub room-kept : RoomKept
 unfolding cover writeLabel writeList
 room-kept = record {
-  covers = λ s w.
-      line-keeps 2 (isScale s) _ refl (line-keeps 7 (isWindow w) _ refl (line-keeps 8 (within area w) _ refl
-      (line-keeps 9 (length (sheetsIn s w) ≤? 4_096) _ refl (laid-keeps (sheetsIn s w)))));
+  covers = λ s w. then-keeps _ (cover-gives {listed = 2 ∷ 7 ∷ 8 ∷ 9 ∷ []} refl refl refl refl s w) refl (laid-keeps (sheetsIn s w));
   labels = λ n. line-keeps 3 (isSheet n) _ refl (laid-keeps (labelOf n));
   lists = λ sheets. then-keeps _ (set-gives {listed = 9 ∷ 3 ∷ 15 ∷ []} refl refl refl sheets) refl (laid-keeps (listBytes sheets));
 }
@@ -128,7 +120,7 @@ first-scales-have-none n h l = rw (h, rules (on-grid n h .scale) .parent ∙ lt-
 pub other-scales-have-parent : OtherScalesHaveParent
 unfolding parent
 other-scales-have-parent n h l =
-    let k = first (parentScale (scaleOf n)) + indexOf n / perParent (scaleOf n) in
+    let k = first (parentScale (scaleOf n)) + indexOf n / parts (scaleOf n) in
     let e : parent n ≡ answer k = rw (h, rules (on-grid n h .scale) .parent ∙ le-leb 4 (scaleOf n) l) in
     let c = relation.parent-has-child n e in
     (k, e, sym (relation.child-answered k (scaleOf n) (c .0) (c .1) .part .from))
@@ -138,7 +130,7 @@ child-is-numbered n s number k e =
     let a = relation.child-answered n s number e in
     record {
       made = a .part .from;
-      numbered = in-between 1 (perParent s) number (a .part .one) (a .part .last);
+      numbered = in-between 1 (parts s) number (a .part .one) (a .part .last);
       scale = relation.child-scale a;
       place = relation.child-is-at n s number e;
       ground = relation.child-lies-within n s number e;
@@ -173,20 +165,17 @@ refused-sheet-has-none = relation.no-neighbours
 pub cover-is-what-shares : CoverIsWhatShares
 unfolding cover
 cover-is-what-shares s w room sheets e =
-    let a = passed 2 (isScale s) _ e in
-    let b = passed 7 (isWindow w) _ (a .1) in
-    let c = passed 8 (within area w) _ (b .1) in
-    let d = passed 9 (length (sheetsIn s w) ≤? 4_096) _ (c .1) in
-    let h : Seen s w = record { scale = scale s (a .0); window = b .0; inside = c .0 } in
-    subst (Covers s w) (laid-same (sheetsIn s w) room (d .1)) (record {
-      exactly = covering.exactly h;
-      once = covering.once h;
-      in-order = covering.in-order h;
-      few = leb-true (length (sheetsIn s w)) 4_096 (d .0);
+    let p = passed-judge (coverable s w) (laid (sheetsIn s w) room) e in
+    let c = is-coverable (p .0) in
+    subst (Covers s w) (laid-same (sheetsIn s w) room (p .1)) (record {
+      exactly = covering.exactly (c .seen);
+      once = covering.once (c .seen);
+      in-order = covering.in-order (c .seen);
+      few = c .few;
     })
 
 pub each-window-has-cover : EachWindowHasCover
-unfolding cover
+unfolding cover coverable
 each-window-has-cover s w room i j k l fits = (sheetsIn s w, rw (i, j, k, le-leb (length (sheetsIn s w)) 4_096 l) (laid-fits (sheetsIn s w) fits))
 
 pub each-set-is-written : EachSetIsWritten

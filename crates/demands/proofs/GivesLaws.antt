@@ -5,11 +5,15 @@ use mathlib.Core.List.{List, [], _∷_}
 use Prim.Native.Nat.{ℕ, zero, suc, _+_}
 use lib.Dec.{leb}
 use lib.ListN.{length, getD, drop}
-use Rattle.refusal.specs.Paper.{Paper, answer, refused, refuse_unless_, _>>_, _>>=_, roomFor, laid}
+use Rattle.refusal.specs.Paper.{Paper, answer, refused, refuse_at_unless_, refuse_unless_, _>>_, _>>=_, roomFor, laid}
 use Rattle.division.specs.Words.{_≤?_, _<?_, _=?_}
 use Rattle.division.specs.Table.{isScale, made}
-use Rattle.division.specs.Sheet.{isSheet}
-use Rattle.label.specs.Label.{inRange, scaleNamed, wellFormed, numbersIn, sheetNamed, readLabel}
+use Rattle.division.specs.declared.Edges.{Edges}
+use Rattle.division.specs.Grid.{area, within}
+use Rattle.division.specs.Sheet.{isSheet, scaleOf}
+use Rattle.division.specs.Cover.{sheetsIn, isWindow, coverable}
+use Rattle.label.specs.Label.{inRange, scaleWith, wellFormed, numbersIn, sheetNamed, readLabel}
+use Rattle.catalogue.specs.Line.{labelIn, hasName, nameIn, isName, withName, readLine}
 use Rattle.shelf.specs.Number.{highs, readNumber}
 use Rattle.shelf.specs.Writing.{risingFrom, asSet}
 use Rattle.shelf.specs.Reading.{Reading, _thenRead_, readEntries}
@@ -43,7 +47,7 @@ module _ {listed : List ℕ} where
   pub room-gives : (needed room : ℕ) → isIn listed 10 ≡ true → Gives listed (roomFor needed room)
   room-gives needed room i = by (leb needed room)
     where
-      by : (fits : Bool) → Gives {A = Unit {0}} listed (cond fits (answer tt) (refused 10 needed))
+      by : (fits : Bool) → Gives {A = Unit {0}} listed (refuse 10 at needed unless fits)
       by true = answers
       by false = needs i
 
@@ -60,8 +64,22 @@ module _ {listed : List ℕ} where
   pub label-gives : isIn listed 4 ≡ true → isIn listed 5 ≡ true → (label : List ℕ) → Gives listed (readLabel label)
   unfolding readLabel sheetNamed
   label-gives i j label =
-      let s = scaleNamed (getD (numbersIn label) 0 0) (length (numbersIn label)) in
-      line-gives 4 (wellFormed label) i (line-gives 4 (isScale s) i (line-gives 5 (inRange (made s) (drop 1 (numbersIn label))) j answers))
+      line-gives 4 (wellFormed label) i
+      (found-gives (line-gives 4 (isScale (scaleWith (getD (numbersIn label) 0 0) (length (numbersIn label)))) i answers) λ s.
+      line-gives 5 (inRange (made s) (drop 1 (numbersIn label))) j answers)
+
+  pub line-of-gives : isIn listed 4 ≡ true → isIn listed 5 ≡ true → isIn listed 17 ≡ true → isIn listed 16 ≡ true → (line : List ℕ) → Gives listed (readLine line)
+  unfolding readLine withName
+  line-of-gives h i j k line = found-gives (label-gives h i (labelIn line)) λ n. by (hasName line) n
+    where
+      by : (named : Bool) (n : ℕ) → Gives listed (cond named (withName (nameIn line) n) (answer n))
+      by true n = line-gives 17 (scaleOf n ≤? 6) j (line-gives 16 (isName (nameIn line)) k answers)
+      by false n = answers
+
+  pub cover-gives : isIn listed 2 ≡ true → isIn listed 7 ≡ true → isIn listed 8 ≡ true → isIn listed 9 ≡ true → (s : ℕ) (w : Edges) → Gives listed (coverable s w)
+  unfolding coverable
+  cover-gives h i j k s w =
+      line-gives 2 (isScale s) h (line-gives 7 (isWindow w) i (line-gives 8 (within area w) j (test-gives 9 (length (sheetsIn s w) ≤? 4_096) k)))
 
   rising-gives : isIn listed 3 ≡ true → isIn listed 15 ≡ true → (least : ℕ) (sheets : List ℕ) → Gives listed (risingFrom least sheets)
   unfolding risingFrom

@@ -17,7 +17,7 @@ use Rattle.label.specs.Text.{every}
 use Rattle.shelf.specs.Number.{readNumber}
 use Rattle.shelf.specs.Writing.{listBytes, risingFrom, asSet, writeList}
 use Rattle.shelf.specs.Reading.{Reading, place, _thenRead_, readEntries, readList}
-use Rattle.shelf.proofs.ReadingLaws.{passed-test, passed-room}
+use Rattle.refusal.proofs.PaperLaws.{passed-test, passed-room}
 use Rattle.shelf.proofs.NumberTheorems.{Bytes}
 use Rattle.demands.specs.Demands.{IsSet, isByte}
 use Rattle.demands.proofs.RoomLaws.{laid-fits, laid-same, then-answered}

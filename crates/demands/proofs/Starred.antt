@@ -2,16 +2,16 @@
 use mathlib.Core.Path.{refl}
 use mathlib.Core.List.{flatMap}
 use Rattle.division.specs.Words.{from, keep}
-use Rattle.division.specs.Table.{tableRow}
+use Rattle.division.specs.Table.{tableRow, rowsOf, columnsOf}
 use Rattle.division.specs.Grid.{edgesOf}
 use Rattle.division.specs.Sheet.{indexAt, placeAt, scaleOf, locate, sheetAt, cornersOf}
 use Rattle.label.specs.Text.{text, every, split, join, value, digits, withoutZeros, decimal}
-use Rattle.label.specs.Label.{markOf, fieldsOf, countOf, inRange, placeFrom, scaleNamed, wellFormed, sheetNamed, readLabel, labelOf, writeLabel}
+use Rattle.label.specs.Label.{markOf, fieldsOf, countOf, inRange, placeFrom, scaleWith, wellFormed, sheetNamed, readLabel, labelOf, writeLabel}
 use Rattle.shelf.specs.Number.{moreGroups, inGroups, numberBytes, groupsValue, highs, readNumber}
 use Rattle.shelf.specs.Writing.{gapsFrom, listBytes, risingFrom, asSet, writeList}
 use Rattle.shelf.specs.Reading.{readEntries, readList}
 use Rattle.demands.specs.Starred.{All, starred}
 
 pub all-starred : All starred
-unfolding flatMap from keep tableRow edgesOf indexAt placeAt scaleOf locate sheetAt cornersOf text every split join value digits withoutZeros decimal markOf fieldsOf countOf inRange placeFrom scaleNamed wellFormed sheetNamed readLabel labelOf writeLabel moreGroups inGroups numberBytes groupsValue highs readNumber gapsFrom listBytes risingFrom asSet writeList readEntries readList
+unfolding flatMap from keep tableRow rowsOf columnsOf edgesOf indexAt placeAt scaleOf locate sheetAt cornersOf text every split join value digits withoutZeros decimal markOf fieldsOf countOf inRange placeFrom scaleWith wellFormed sheetNamed readLabel labelOf writeLabel moreGroups inGroups numberBytes groupsValue highs readNumber gapsFrom listBytes risingFrom asSet writeList readEntries readList
 all-starred = ((refl, (refl, refl)), ((refl, (refl, refl)), ((refl, (refl, refl)), ((refl, (refl, refl)), ((refl, (refl, refl)), ((refl, (refl, refl)), ((refl, (refl, refl)), ((refl, (refl, refl)), ((refl, (refl, refl)), (refl, (refl, (((refl, refl), refl), (refl, (refl, (refl, tt)))))))))))))))

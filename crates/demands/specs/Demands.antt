@@ -14,12 +14,12 @@ use Rattle.division.specs.declared.Place.{Place}
 use Rattle.division.specs.declared.Spot.{Spot}
 use Rattle.division.specs.declared.Neighbour.the-variants.{Sheet, None}
 use Rattle.division.specs.Words.{_≤?_, _=?_, between}
-use Rattle.division.specs.Table.{isScale, width, height, rows, columns, first, last, parentScale, parts, perParent}
+use Rattle.division.specs.Table.{isScale, width, height, rows, columns, first, last, parentScale, side, parts}
 use Rattle.division.specs.Grid.{millimetres, area, owns, within}
-use Rattle.division.specs.Sheet.{isSheet, scaleOf, placeOf, groundOf, childPlace, locate, sheetOn, sheetAt, cornersOf}
+use Rattle.division.specs.Sheet.{isSheet, scaleOf, placeOf, readingOrder, groundOf, childPlace, locate, sheetOn, sheetAt, cornersOf}
 use Rattle.division.specs.Relations.{parent, child, step, offset, orNone, neighbours}
 use Rattle.division.specs.Cover.{sheetsIn, isWindow, cover}
-use Rattle.division.specs.Theorems.{Holds, Shares, SameGround, readingOrder}
+use Rattle.division.specs.Theorems.{Holds, Shares, SameGround}
 use Rattle.label.specs.Text.{every}
 use Rattle.label.specs.Label.{isLabelByte, readLabel, writeLabel, labelLength}
 use Rattle.catalogue.specs.Line.{readLine}
@@ -183,9 +183,9 @@ OtherScalesHaveParent =
 -- "A child is asked by scale and number"; "Within a parent, sheets are numbered from 1, row by row from the upper left"
 pub record Child (n s number k : ℕ) : Type 0 where
   pub made : parentScale s ≡ scaleOf n
-  pub numbered : between 1 (perParent s) number ≡ true
+  pub numbered : between 1 (parts s) number ≡ true
   pub scale : scaleOf k ≡ s
-  pub place : placeOf k ≡ childPlace (parts s) (placeOf n) number
+  pub place : placeOf k ≡ childPlace (side s) (placeOf n) number
   pub ground : within (groundOf n) (groundOf k) ≡ true
 
 abbrev pub ChildIsNumbered : Type 0
@@ -193,7 +193,7 @@ ChildIsNumbered = (n s number k : ℕ) → child n s number ≡ answer k → Chi
 
 abbrev pub EachChildIsThere : Type 0
 EachChildIsThere =
-    (n s number : ℕ) → isSheet n ≡ true → isScale s ≡ true → parentScale s ≡ scaleOf n → between 1 (perParent s) number ≡ true →
+    (n s number : ℕ) → isSheet n ≡ true → isScale s ≡ true → parentScale s ≡ scaleOf n → between 1 (parts s) number ≡ true →
     (k : ℕ) × (child n s number ≡ answer k)
 
 -- a child's parent is the sheet that was asked, and a sheet that has a parent is one of its children

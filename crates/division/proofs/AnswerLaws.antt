@@ -7,9 +7,11 @@ use Rattle.division.specs.declared.Located.{Located}
 use Rattle.division.specs.declared.Located.the-variants as located
 use Rattle.division.specs.declared.Corners.{Corners}
 use Rattle.division.specs.declared.Corners.the-variants as corners
+use Rattle.division.specs.declared.cover.Windowed.{Windowed}
+use Rattle.division.specs.declared.cover.Windowed.the-variants as windowed
 use Rattle.division.specs.declared.Apart.{Apart}
 use Rattle.division.specs.declared.Apart.the-variants as apart
-use Rattle.division.specs.Answers.{sheetPaper, spotPaper, cornersPaper, offsetPaper}
+use Rattle.division.specs.Answers.{sheetPaper, spotPaper, cornersPaper, blockPaper, offsetPaper}
 
 pub sheet-told : Told sheetPaper
 sheet-told = record { back = read found.Sheet found.Refused; again = again }
@@ -31,6 +33,13 @@ corners-told = record { back = read corners.Framed corners.Refused; again = agai
     again : (a : Corners) → read corners.Framed corners.Refused (cornersPaper a) ≡ a
     again (corners.Framed e) = refl
     again (corners.Refused why) = read-refusal corners.Framed corners.Refused why
+
+pub block-told : Told blockPaper
+block-told = record { back = read windowed.Meets windowed.Refused; again = again }
+  where
+    again : (a : Windowed) → read windowed.Meets windowed.Refused (blockPaper a) ≡ a
+    again (windowed.Meets b) = refl
+    again (windowed.Refused why) = read-refusal windowed.Meets windowed.Refused why
 
 pub offset-told : Told offsetPaper
 offset-told = record { back = read apart.By apart.Refused; again = again }

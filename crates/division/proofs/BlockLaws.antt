@@ -11,7 +11,7 @@ use Rattle.division.specs.declared.cover.Span.{Span}
 use Rattle.division.specs.Words.{from}
 use Rattle.division.specs.Sheet.{sheetOf}
 use Rattle.division.specs.Cover.{block}
-use Rattle.division.specs.Given.{OnGrid, Fills}
+use Rattle.division.specs.Given.{OnGrid, BlockRoom}
 use Rattle.division.proofs.RangeLaws.{length-from, getD-from}
 use Rattle.division.proofs.MadeLaws.{quot}
 
@@ -49,7 +49,7 @@ pub length-spans : (s : ℕ) (down across : Span) → length (blockOf s down acr
 length-spans s down across =
     length-block s (from (down .first) (down .count)) (from (across .first) (across .count)) ∙ rw (length-from (down .first) (down .count), length-from (across .first) (across .count))
 
-module _ {s room : ℕ} {down across : Span} (f : Fills s down across room) where
+module _ {s room : ℕ} {down across : Span} (f : BlockRoom s down across room) where
   -- place i of the block: row i / n, column i % n of n columns
   module _ (i : ℕ) (h : i < down .count * across .count) where
     pub some : 0 < across .count

@@ -14,17 +14,18 @@ use Rattle.division.specs.declared.cover.Span.{Span}
 use Rattle.division.specs.Words.{_<ᶻ_, from}
 use Rattle.division.specs.Table.{width, height, rows, columns}
 use Rattle.division.specs.Grid.{millimetres, owns, westOf, northOf, edgesOf}
-use Rattle.division.specs.Sheet.{sheetOf, placeOf}
+use Rattle.division.specs.Sheet.{sheetOf, placeOf, readingOrder}
 use Rattle.division.specs.Cover.{columnsIn, rowsIn, block, sheetsIn}
-use Rattle.division.specs.Given.{IsScale, OnGrid, Seen, Run}
-use Rattle.division.specs.Theorems.{Shares, readingOrder}
+use Rattle.division.specs.Given.{IsScale, OnGrid, Seen}
+use Rattle.division.specs.Theorems.{Shares}
 use Rattle.division.proofs.TestLaws.{both}
 use Rattle.division.proofs.NumberLaws.{on-grid, sheet-place, scale-sheet, place-sheet, is-sheet}
 use Rattle.division.proofs.GridLaws.{some-width, some-height, high-in, north-is}
 use Rattle.division.proofs.PointLaws.{owned}
 use Rattle.division.proofs.MeetLaws.{first-common, last-common, first-meets, last-meets}
 use Rattle.division.proofs.MemberLaws.{from-has, has-from, keep-has, has-keep, Cell, block-has, has-block}
-use Rattle.division.proofs.BlockLaws.{sheetIn, length-block}
+use Rattle.division.proofs.BlockLaws.{sheetIn}
+use Rattle.division.proofs.SpanLaws.{Spans}
 use Rattle.division.proofs.WindowLaws.{columnMeets, rowMeets, columns-run, rows-run}
 
 -- no column and no row is empty
@@ -126,7 +127,7 @@ module _ {s : ℕ} (h : IsScale s) where
           let z : (top + 1) * columns s ≤ u .row * columns s = mul-le-mul-right (columns s) (omega arith) in
           rw (← t .2, ← u .is, order-is top (t .0) (omega arith) (omega arith), order-is (u .row) (u .column) (omega arith) (omega arith)) (omega (arith, add-mul top 1 (columns s), one-mul (columns s)))
 
-  runs-order : {rs cs : List ℕ} {down across : Span} → Run rs (rows s) down → Run cs (columns s) across → Pairwise Later (block s rs cs)
+  runs-order : {rs cs : List ℕ} {down across : Span} → Spans rs (rows s) down → Spans cs (columns s) across → Pairwise Later (block s rs cs)
   runs-order {down = down} {across = across} d a =
       rw (d .listed, a .listed) (block-order (down .first) (down .count) (across .first) (across .count) (d .inside) (a .inside))
 
@@ -136,8 +137,3 @@ module _ {s : ℕ} {w : Edges} (h : Seen s w) where
 
   pub once : List·Nodup (sheetsIn s w)
   once = Pairwise·imp (λ a b l e. omega (arith, ap readingOrder e)) in-order
-
--- ---- what 9 and 10 judge: the rows met times the columns met
-
-pub count-is : (s : ℕ) (w : Edges) → length (sheetsIn s w) ≡ length (rowsIn s w) * length (columnsIn s w)
-count-is s w = length-block s (rowsIn s w) (columnsIn s w)

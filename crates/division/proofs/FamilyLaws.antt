@@ -8,7 +8,7 @@ use borrow.Author.Tests.{leb-true, eqb-true}
 use Rattle.division.specs.declared.Place.{Place}
 use Rattle.division.specs.declared.table.Row.{Row}
 use Rattle.division.specs.Words.{_≤?_, _=?_, between}
-use Rattle.division.specs.Table.{Made, ofArea, ofScale, rowsOf, columnsOf, made, rows, columns, parentScale, parts, perParent, sheets, first, codeRow}
+use Rattle.division.specs.Table.{Made, ofArea, ofScale, rowsOf, columnsOf, made, rows, columns, parentScale, side, parts, sheets, first, codeRow}
 use Rattle.division.specs.Sheet.{isSheet, scaleOf, indexOf, numberIn, parentPlace, childPlace, areaIndex, areaPlace, partIndex, indexAt, placeAt}
 use Rattle.division.specs.Relations.{isPart}
 use Rattle.division.specs.Given.{IsScale, OnGrid, Indexed, AreaPlace, Parted, Part, PartPlace}
@@ -17,7 +17,7 @@ use Rattle.division.proofs.MadeLaws.{Sound, On, quot, number-few, sheet
 use Rattle.division.proofs.TableLaws.{grown, rules}
 use Rattle.division.proofs.NumberLaws.{index-few, ranged, indexed}
 
-grown-deep : (s p : ℕ) → (p ≡ 0 → ⊥) → grown s p ≡ ofScale p (made p) (parts s)
+grown-deep : (s p : ℕ) → (p ≡ 0 → ⊥) → grown s p ≡ ofScale p (made p) (side s)
 grown-deep s zero e = absurd (e refl)
 grown-deep s (suc p) e = refl
 
@@ -44,54 +44,54 @@ module _ {s : ℕ} (h : IsScale s) (e : parentScale s ≡ 0) where
 -- ---- a scale that is made from its parent's
 
 module _ {s : ℕ} (h : IsScale s) (e : parentScale s ≡ 0 → ⊥) where
-  pub deep : made s ≡ ofScale (parentScale s) (made (parentScale s)) (parts s)
+  pub deep : made s ≡ ofScale (parentScale s) (made (parentScale s)) (side s)
   deep = rules h .grows ∙ grown-deep s (parentScale s) e
 
   pub above : IsScale (parentScale s)
   above = record { one = omega arith; nine = omega (arith, h .nine, rules h .above) }
 
-  pub parted : Parted (parts s)
+  pub parted : Parted (side s)
   parted = record { some = subst Sound deep (rules h .sound) .0; few = rules h .few-parts }
 
-  pub sheets-family : sheets s ≡ sheets (parentScale s) * perParent s
-  sheets-family = ap (λ (m : Made). rowsOf m * columnsOf m) deep ∙ sheets-parts (parentScale s) (made (parentScale s)) (parts s)
+  pub sheets-family : sheets s ≡ sheets (parentScale s) * parts s
+  sheets-family = ap (λ (m : Made). rowsOf m * columnsOf m) deep ∙ sheets-parts (parentScale s) (made (parentScale s)) (side s)
 
   -- sheets, so many for each of the scale's, by the parent's; and so many for each part of a parent are no more
-  pub sheets-by : (n each : ℕ) → n ≡ each * sheets s → n ≡ each * perParent s * sheets (parentScale s)
-  sheets-by n each a = a ∙ ap (λ (m : ℕ). each * m) (sheets-family ∙ mul-comm (sheets (parentScale s)) (perParent s)) ∙ sym (mul-assoc each (perParent s) (sheets (parentScale s)))
+  pub sheets-by : (n each : ℕ) → n ≡ each * sheets s → n ≡ each * parts s * sheets (parentScale s)
+  sheets-by n each a = a ∙ ap (λ (m : ℕ). each * m) (sheets-family ∙ mul-comm (sheets (parentScale s)) (parts s)) ∙ sym (mul-assoc each (parts s) (sheets (parentScale s)))
 
-  pub each-few : (n each : ℕ) → n ≡ each * sheets s → each * perParent s ≤ n
-  each-few n each a = rw (sheets-by n each a) (le-mul-of-pos-right (each * perParent s) (rules above .some))
+  pub each-few : (n each : ℕ) → n ≡ each * sheets s → each * parts s ≤ n
+  each-few n each a = rw (sheets-by n each a) (le-mul-of-pos-right (each * parts s) (rules above .some))
 
-  rows-family : rows s ≡ rows (parentScale s) * parts s
+  rows-family : rows s ≡ rows (parentScale s) * side s
   unfolding rowsOf
   rows-family = ap rowsOf deep
 
-  columns-family : columns s ≡ columns (parentScale s) * parts s
+  columns-family : columns s ≡ columns (parentScale s) * side s
   unfolding columnsOf
   columns-family = ap columnsOf deep
 
   -- part `number` of a parent at index `up`
-  pub part : (up number : ℕ) → up < sheets (parentScale s) → 1 ≤ number → number ≤ perParent s → Part (parts s) up number
+  pub part : (up number : ℕ) → up < sheets (parentScale s) → 1 ≤ number → number ≤ parts s → Part (parts s) up number
   part up number l one last =
-      let m : (up + 1) * perParent s ≤ sheets (parentScale s) * perParent s = mul-le-mul-right (perParent s) (omega arith) in
-      record { parted = parted; one = one; last = last; few = omega (arith, sheets-family, rules h .few) }
+      let m : (up + 1) * parts s ≤ sheets (parentScale s) * parts s = mul-le-mul-right (parts s) (omega arith) in
+      record { one = one; last = last; few = omega (arith, sheets-family, rules h .few) }
 
   module _ (p : Place) (o : OnGrid s p) where
-    pub parent-on : OnGrid (parentScale s) (parentPlace (parts s) p)
+    pub parent-on : OnGrid (parentScale s) (parentPlace (side s) p)
     parent-on =
-        let u = on-parent (parentScale s) (made (parentScale s)) (parts s) p (parted .some) (subst (λ (m : Made). On m p) deep (record { in-rows = o .in-rows; in-columns = o .in-columns })) in
+        let u = on-parent (parentScale s) (made (parentScale s)) (side s) p (parted .some) (subst (λ (m : Made). On m p) deep (record { in-rows = o .in-rows; in-columns = o .in-columns })) in
         record { scale = above; in-rows = u .in-rows; in-columns = u .in-columns }
 
-    pub deep-index : indexAt (made s) p ≡ partIndex (parts s) (indexAt (made (parentScale s)) (parentPlace (parts s) p)) (numberIn (parts s) p)
+    pub deep-index : indexAt (made s) p ≡ partIndex (parts s) (indexAt (made (parentScale s)) (parentPlace (side s) p)) (numberIn (side s) p)
     unfolding indexAt
     deep-index = ap (λ (m : Made). indexAt m p) deep
 
   -- a place of the parent's scale has room for its parts
-  pub part-place : (up : Place) (number : ℕ) → OnGrid (parentScale s) up → 1 ≤ number → number ≤ perParent s → PartPlace (parts s) up number
+  pub part-place : (up : Place) (number : ℕ) → OnGrid (parentScale s) up → 1 ≤ number → number ≤ parts s → PartPlace (side s) up number
   part-place up number o one last =
-      let r : (up .row + 1) * parts s ≤ rows (parentScale s) * parts s = mul-le-mul-right (parts s) (omega (arith, o .in-rows)) in
-      let q : (up .column + 1) * parts s ≤ columns (parentScale s) * parts s = mul-le-mul-right (parts s) (omega (arith, o .in-columns)) in
+      let r : (up .row + 1) * side s ≤ rows (parentScale s) * side s = mul-le-mul-right (side s) (omega (arith, o .in-rows)) in
+      let q : (up .column + 1) * side s ≤ columns (parentScale s) * side s = mul-le-mul-right (side s) (omega (arith, o .in-columns)) in
       record {
         parted = parted;
         one = one;
@@ -101,20 +101,20 @@ module _ {s : ℕ} (h : IsScale s) (e : parentScale s ≡ 0 → ⊥) where
       }
 
   module _ (i : ℕ) (x : Indexed s i) where
-    pub parent-indexed : Indexed (parentScale s) (i / perParent s)
+    pub parent-indexed : Indexed (parentScale s) (i / parts s)
     parent-indexed = record { scale = above; in-sheets = quot (mul-pos (parted .some) (parted .some)) (rw sheets-family at (x .in-sheets)) }
 
-    pub deep-place : placeAt (made s) i ≡ childPlace (parts s) (placeAt (made (parentScale s)) (i / perParent s)) (i % perParent s + 1)
+    pub deep-place : placeAt (made s) i ≡ childPlace (side s) (placeAt (made (parentScale s)) (i / parts s)) (i % parts s + 1)
     unfolding placeAt
     deep-place = ap (λ (m : Made). placeAt m i) deep
 
-    pub parent-place-on : OnGrid (parentScale s) (placeAt (made (parentScale s)) (i / perParent s))
+    pub parent-place-on : OnGrid (parentScale s) (placeAt (made (parentScale s)) (i / parts s))
     parent-place-on =
-        let o = on-place (made (parentScale s)) (i / perParent s) (rules above .sound) (parent-indexed .in-sheets) in
+        let o = on-place (made (parentScale s)) (i / parts s) (rules above .sound) (parent-indexed .in-sheets) in
         record { scale = above; in-rows = o .in-rows; in-columns = o .in-columns }
 
-    pub deep-room : PartPlace (parts s) (placeAt (made (parentScale s)) (i / perParent s)) (i % perParent s + 1)
-    deep-room = part-place (placeAt (made (parentScale s)) (i / perParent s)) (i % perParent s + 1) parent-place-on (left-one (parts s) i (parted .some)) (left-few (parts s) i (parted .some))
+    pub deep-room : PartPlace (side s) (placeAt (made (parentScale s)) (i / parts s)) (i % parts s + 1)
+    deep-room = part-place (placeAt (made (parentScale s)) (i / parts s)) (i % parts s + 1) parent-place-on (left-one (side s) i (parted .some)) (left-few (side s) i (parted .some))
 
 -- ---- the index of a place, parent by parent: `index` is what the parts so far make, and `each` how many sheets one at `up` has
 
@@ -156,33 +156,33 @@ module _ {s : ℕ} {p : Place} {t : Row} {at : Place} {index each : ℕ} (c : Cl
     deep-parent : parentScale (c .up) ≡ 0 → ⊥
     deep-parent = rw (c .row) at e
 
-    pub climb-parted : Parted (t .parts)
+    pub climb-parted : Parted (t .side)
     climb-parted = rw (c .row) (parted (c .on .scale) deep-parent)
 
     pub climb-up : codeRow (t .parent) .parent < t .parent
     climb-up = rw (c .row) (rules (above (c .on .scale) deep-parent) .above)
 
     -- by the parent's index and the number there
-    parts-whole : indexAt (made s) p ≡ index + each * (numberIn (parts (c .up)) at - 1) + each * perParent (c .up) * indexAt (made (parentScale (c .up))) (parentPlace (parts (c .up)) at)
+    parts-whole : indexAt (made s) p ≡ index + each * (numberIn (side (c .up)) at - 1) + each * parts (c .up) * indexAt (made (parentScale (c .up))) (parentPlace (side (c .up)) at)
     parts-whole =
-        let k = perParent (c .up) in
-        let j = numberIn (parts (c .up)) at - 1 in
-        let h = indexAt (made (parentScale (c .up))) (parentPlace (parts (c .up)) at) in
+        let k = parts (c .up) in
+        let j = numberIn (side (c .up)) at - 1 in
+        let h = indexAt (made (parentScale (c .up))) (parentPlace (side (c .up)) at) in
         let d : indexAt (made (c .up)) at ≡ h * k + j = deep-index (c .on .scale) deep-parent at (c .on) in
         let w : indexAt (made s) p ≡ index + each * (h * k + j) = rw d at (c .whole) in
         omega (arith, w, mul-add each (h * k) j, mul-comm h k, mul-assoc each k h)
 
-    pub climb-each : each * (t .parts * t .parts) ≤ 6_000_000
+    pub climb-each : each * t .parts ≤ 6_000_000
     climb-each = rw (c .row) (le-trans (each-few (c .on .scale) deep-parent (sheets s) each (c .all)) (rules (c .from .scale) .few))
 
-    module _ (number : ℕ) (f : number ≡ numberIn (t .parts) at) where
-      number-is : number ≡ numberIn (parts (c .up)) at
+    module _ (number : ℕ) (f : number ≡ numberIn (t .side) at) where
+      number-is : number ≡ numberIn (side (c .up)) at
       number-is = rw (c .row) at f
 
       pub climb-sum : index + each * (number - 1) < 6_000_000
       climb-sum = rw number-is (omega (arith, parts-whole, index-few (c .from), rules (c .from .scale) .few))
 
-      pub climb-next : (r : Row) (q : Place) → r ≡ codeRow (t .parent) → q ≡ parentPlace (t .parts) at → Climb s p r q (index + each * (number - 1)) (each * (t .parts * t .parts))
+      pub climb-next : (r : Row) (q : Place) → r ≡ codeRow (t .parent) → q ≡ parentPlace (t .side) at → Climb s p r q (index + each * (number - 1)) (each * t .parts)
       climb-next r q g b = record {
         up = parentScale (c .up);
         row = rw (c .row) at g;
@@ -196,10 +196,10 @@ module _ {s : ℕ} {p : Place} {t : Row} {at : Place} {index each : ℕ} (c : Cl
 
 -- a sheet whose scale has a parent
 module _ (n : ℕ) (h : isSheet n ≡ true) (e : parentScale (scaleOf n) ≡ 0 → ⊥) where
-  pub parent-in : indexOf n / perParent (scaleOf n) < sheets (parentScale (scaleOf n))
+  pub parent-in : indexOf n / parts (scaleOf n) < sheets (parentScale (scaleOf n))
   parent-in = parent-indexed (ranged n h .scale) e (indexOf n) (indexed n h) .in-sheets
 
-  pub parent-low : first (parentScale (scaleOf n)) + indexOf n / perParent (scaleOf n) < 7_953_174
+  pub parent-low : first (parentScale (scaleOf n)) + indexOf n / parts (scaleOf n) < 7_953_174
   parent-low = omega (arith, parent-in, rules (above (ranged n h .scale) e) .low)
 
 -- a part of a sheet at a scale
@@ -208,18 +208,18 @@ pub record Child (s n number : ℕ) : Type 0 where
   pub sheet : isSheet n ≡ true
   pub from : parentScale s ≡ scaleOf n
   pub one : 1 ≤ number
-  pub last : number ≤ perParent s
+  pub last : number ≤ parts s
 
 pub child-of : (s n number : ℕ) → IsScale s → isSheet n ≡ true → isPart s (scaleOf n) number ≡ true → Child s n number
 child-of s n number h z e =
-    let b = both (parentScale s =? scaleOf n) (between 1 (perParent s) number) e in
-    let d = both (1 ≤? number) (number ≤? perParent s) (b .1) in
+    let b = both (parentScale s =? scaleOf n) (between 1 (parts s) number) e in
+    let d = both (1 ≤? number) (number ≤? parts s) (b .1) in
     record {
       scale = h;
       sheet = z;
       from = eqb-true (parentScale s) (scaleOf n) (b .0);
       one = leb-true 1 number (d .0);
-      last = leb-true number (perParent s) (d .1);
+      last = leb-true number (parts s) (d .1);
     }
 
 module _ {s n number : ℕ} (c : Child s n number) where
@@ -234,7 +234,7 @@ module _ {s n number : ℕ} (c : Child s n number) where
 
   pub child-few : partIndex (parts s) (indexOf n) number < sheets s
   child-few =
-      let m : (indexOf n + 1) * perParent s ≤ sheets (parentScale s) * perParent s = mul-le-mul-right (perParent s) (omega (arith, child-in)) in
+      let m : (indexOf n + 1) * parts s ≤ sheets (parentScale s) * parts s = mul-le-mul-right (parts s) (omega (arith, child-in)) in
       omega (arith, sheets-family (c .scale) child-deep, c .one, c .last)
 
 -- ---- sums of a part stay small

@@ -1,21 +1,21 @@
 -- A sheet number is a place of a scale: the scales' ranges of numbers follow one another, and within one a place is an index. Assumes nothing.
 use mathlib.Core.Path.{_≡_, refl, sym, ap, _∙_, subst}
-use mathlib.Core.Bool.{Bool, true, false, cond}
+use mathlib.Core.Bool.{Bool, true, false, cond, and-false}
 use mathlib.Core.List.{List, _∷_}
 use mathlib.Core.Logic.{⊎-elim}
 use Prim.Native.Nat.{ℕ, zero, suc, _+_, _-_, _≤_, _<_}
 use native.Mathlib.Nat.{zero-add, le-refl, eq-or-lt-of-le, le-of-suc-le-suc}
 use native.Mathlib.Omega.{arith}
-use borrow.Author.Tests.{le-leb, lt-leb, leb-true, ltb-true}
-use lib.ListN.{length}
+use borrow.Author.Tests.{le-leb, lt-leb, leb-true, leb-false, ltb-true}
+use lib.ListN.{length, getD}
 use mir.Val.{boolByte}
 use Rattle.division.specs.declared.Place.{Place}
-use Rattle.division.specs.Words.{_≤?_, _<?_, from, keep}
-use Rattle.division.specs.Table.{table, tableRow, rowsOf, columnsOf, made, rows, columns, sheets, first}
+use Rattle.division.specs.Words.{_≤?_, _<?_, between, from, keep}
+use Rattle.division.specs.Table.{table, tableRow, rowsOf, columnsOf, made, rows, columns, sheets, first, last, scales}
 use Rattle.division.specs.Sheet.{isSheet, onGrid, indexAt, sheetOf, scaleOf, indexOf, placeOf}
 use Rattle.division.specs.Given.{IsScale, OnGrid, Indexed}
 use Rattle.division.proofs.TestLaws.{both, le-or-less}
-use Rattle.division.proofs.RangeLaws.{length-from, keep-range}
+use Rattle.division.proofs.RangeLaws.{length-from, keep-none, keep-range}
 use Rattle.division.proofs.MadeLaws.{On, index<, place-index, on-place, index-place}
 use Rattle.division.proofs.TableLaws.{before, rules, all-sheets}
 
@@ -32,23 +32,62 @@ pub record Ranged (s n : ℕ) : Type 0 where
   pub low : first s ≤ n
   pub high : n < first s + sheets s
 
--- is a sheet of that scale
-pub scale-is : (s n : ℕ) → Ranged s n → scaleOf n ≡ s
-unfolding scaleOf
-scale-is s n r =
-    let e : 0 + (s + (9 - s)) ≡ 9 = omega (arith, r .scale .nine) in
-    let k : keep (λ c. first c ≤? n) (from 1 (0 + (s + (9 - s)))) ≡ from 1 s = keep-range (λ c. first c ≤? n) 1 0 s (9 - s) (λ c h l. absurd (omega arith)) begun later in
-    ap length (rw e at k) ∙ length-from 1 s
-  where
-    begun : (c : ℕ) → 1 + 0 ≤ c → c < 1 + 0 + s → (first c ≤? n) ≡ true
-    begun c h l =
-        let i : IsScale c = record { one = omega arith; nine = omega (arith, r .scale .nine) } in
-        le-leb (first c) n (omega (arith, rules i .begins, rules (r .scale) .begins, before-rises c s (omega arith), r .low))
+module _ (s n : ℕ) (r : Ranged s n) where
+  -- the scales up to that one begin at or before it, those behind it do not, and those in front of it end before it
+  begun : (c : ℕ) → 1 ≤ c → c ≤ s → (first c ≤? n) ≡ true
+  begun c h l =
+      let i : IsScale c = record { one = h; nine = omega (arith, r .scale .nine) } in
+      le-leb (first c) n (omega (arith, rules i .begins, rules (r .scale) .begins, before-rises c s l, r .low))
 
-    later : (c : ℕ) → 1 + 0 + s ≤ c → c < 1 + 0 + s + (9 - s) → (first c ≤? n) ≡ false
-    later c h l =
-        let i : IsScale c = record { one = omega arith; nine = omega (arith, r .scale .nine) } in
-        lt-leb (first c) n (omega (arith, rules i .begins, rules (r .scale) .ends, before-rises (suc s) c (omega arith), r .high))
+  later : (c : ℕ) → s < c → c ≤ 9 → (first c ≤? n) ≡ false
+  later c h l =
+      let i : IsScale c = record { one = omega arith; nine = l } in
+      lt-leb (first c) n (omega (arith, rules i .begins, rules (r .scale) .ends, before-rises (suc s) c h, r .high))
+
+  ended : (c : ℕ) → 1 ≤ c → c < s → (n ≤? last c) ≡ false
+  ended c h l =
+      let i : IsScale c = record { one = h; nine = omega (arith, r .scale .nine) } in
+      lt-leb n (last c) (omega (arith, rules i .ends, rules i .some, rules (r .scale) .begins, before-rises (suc c) s l, r .low))
+
+  -- so it is a sheet of that scale
+  pub scale-is : scaleOf n ≡ s
+  unfolding scaleOf from
+  scale-is =
+      let e : s - 1 + (1 + (9 - s)) ≡ 9 = omega (arith, r .scale .one, r .scale .nine) in
+      let t : 1 + (s - 1) ≡ s = omega (arith, r .scale .one) in
+      let k : keep here (from 1 (s - 1 + (1 + (9 - s)))) ≡ from (1 + (s - 1)) 1 = keep-range here 1 (s - 1) 1 (9 - s) front own behind in
+      ap (λ (l : List ℕ). getD l 0 0) (rw (e, t) at k)
+    where
+      here : ℕ → Bool
+      here c = between (first c) (last c) n
+
+      front : (c : ℕ) → 1 ≤ c → c < 1 + (s - 1) → here c ≡ false
+      front c h l = rw (ended c h (omega arith)) (and-false (first c ≤? n))
+
+      own : (c : ℕ) → 1 + (s - 1) ≤ c → c < 1 + (s - 1) + 1 → here c ≡ true
+      own c h l =
+          let e : c ≡ s = omega (arith, r .scale .one) in
+          rw (e, begun s (r .scale .one) (le-refl s), le-leb n (last s) (omega (arith, r .high)))
+
+      behind : (c : ℕ) → 1 + (s - 1) + 1 ≤ c → c < 1 + (s - 1) + 1 + (9 - s) → here c ≡ false
+      behind c h l = rw (later c (omega (arith, r .scale .one)) (omega (arith, r .scale .one, r .scale .nine)))
+
+  -- and as many scales begin at or before it as the number of that scale says
+  pub begun-are : length (keep (λ c. first c ≤? n) scales) ≡ s
+  begun-are =
+      let e : 0 + (s + (9 - s)) ≡ 9 = omega (arith, r .scale .nine) in
+      let k : keep (λ c. first c ≤? n) (from 1 (0 + (s + (9 - s)))) ≡ from (1 + 0) s = keep-range (λ c. first c ≤? n) 1 0 s (9 - s) (λ c h l. absurd (omega arith)) (λ c h l. begun c (omega arith) (omega arith)) (λ c h l. later c (omega arith) (omega (arith, r .scale .nine))) in
+      ap length (rw e at k) ∙ length-from 1 s
+
+-- a number behind the last sheet is of no scale
+pub no-scale : (n : ℕ) → isSheet n ≡ false → scaleOf n ≡ 0
+unfolding scaleOf
+no-scale n e = ap (λ (l : List ℕ). getD l 0 0) (keep-none (λ s. between (first s) (last s) n) 1 9 past)
+  where
+    past : (s : ℕ) → 1 ≤ s → s < 1 + 9 → between (first s) (last s) n ≡ false
+    past s h l =
+        let i : IsScale s = record { one = h; nine = omega arith } in
+        rw (lt-leb n (last s) (omega (arith, leb-false n 7_953_173 e, rules i .low, rules i .some))) (and-false (first s ≤? n))
 
 -- the first scale begins at 0, and none is before it
 before-one : before 1 ≡ 0
@@ -66,7 +105,7 @@ find (suc k) n g h =
 
 -- ---- the scales counted one by one
 
--- how many of the scales from s on begin at or before a sheet
+-- how many of the scales from s on begin at or before a number
 abbrev pub begunFrom : ℕ → ℕ → ℕ
 begunFrom n s = length (keep (λ c. first c ≤? n) (from s (10 - s)))
 
@@ -98,6 +137,9 @@ module _ (n : ℕ) (h : isSheet n ≡ true) where
   ranged =
       let f = find 9 n (le-refl 9) (omega (arith, leb-true n 7_953_173 h, all-sheets)) in
       subst (λ (s : ℕ). Ranged s n) (sym (scale-is (f .0) n (f .1))) (f .1)
+
+  pub begun-scales : begunFrom n 1 ≡ scaleOf n
+  begun-scales = begun-are (scaleOf n) n ranged
 
   pub indexed : Indexed (scaleOf n) (indexOf n)
   indexed = record { scale = ranged .scale; in-sheets = omega (arith, ranged .low, ranged .high) }

@@ -30,7 +30,7 @@ from-append a (suc m) n =
     rw (e, g) (ap (λ (l : List ℕ). a ∷ l) (from-append (a + 1) m n))
 
 module _ (f : ℕ → Bool) where
-  keep-none : (a n : ℕ) → ((c : ℕ) → a ≤ c → c < a + n → f c ≡ false) → keep f (from a n) ≡ []
+  pub keep-none : (a n : ℕ) → ((c : ℕ) → a ≤ c → c < a + n → f c ≡ false) → keep f (from a n) ≡ []
   unfolding keep from
   keep-none a zero h = refl
   keep-none a (suc n) h = rw (h a (omega arith) (omega arith)) (keep-none (a + 1) n (λ c x y. h c (omega arith) (omega arith)))

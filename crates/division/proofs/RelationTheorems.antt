@@ -17,7 +17,7 @@ use Rattle.division.specs.declared.Offset.{Offset}
 use Rattle.division.specs.declared.Neighbour.{Neighbour}
 use Rattle.division.specs.declared.Neighbour.the-variants.{Sheet, None}
 use Rattle.division.specs.Words.{_≤?_}
-use Rattle.division.specs.Table.{isScale, width, height, rows, columns, parentScale, parts, perParent, first}
+use Rattle.division.specs.Table.{isScale, width, height, rows, columns, parentScale, side, parts, first}
 use Rattle.division.specs.Grid.{millimetres, within, edgesOf}
 use Rattle.division.specs.Sheet.{isSheet, scaleOf, indexOf, placeOf, sheetOf, groundOf, partIndex, childPlace}
 use Rattle.division.specs.Relations.{isPart, parent, child, moved, stays, walk, step, apart, offset, orNone, neighbours}
@@ -57,13 +57,13 @@ module _ {n s number k : ℕ} (a : Answered n s number k) where
   child-index : k - first s ≡ partIndex (parts s) (indexOf n) number
   child-index = omega (arith, a .is)
 
-  left : number - 1 < perParent s
+  left : number - 1 < parts s
   left = omega (arith, a .part .one, a .part .last)
 
-  parent-index : (k - first s) / perParent s ≡ indexOf n
+  parent-index : (k - first s) / parts s ≡ indexOf n
   parent-index = rw child-index (digits-div (indexOf n) left)
 
-  number-index : (k - first s) % perParent s + 1 ≡ number
+  number-index : (k - first s) % parts s + 1 ≡ number
   number-index = rw child-index (rw (digits-mod (indexOf n) left) (omega (arith, a .part .one)))
 
 -- "A child is asked by scale and number": its parent is the sheet that was asked
@@ -80,7 +80,7 @@ pub child-tells : (n s i j : ℕ) {k : ℕ} → child n s i ≡ answer k → chi
 child-tells n s i j e f = sym (number-index (child-answered n s i e)) ∙ number-index (child-answered n s j f)
 
 -- a sheet that has a parent is one of its children
-again : (k n : ℕ) → isSheet k ≡ true → 1 ≤ parentScale (scaleOf k) → n ≡ first (parentScale (scaleOf k)) + indexOf k / perParent (scaleOf k) → child n (scaleOf k) (indexOf k % perParent (scaleOf k) + 1) ≡ answer k
+again : (k n : ℕ) → isSheet k ≡ true → 1 ≤ parentScale (scaleOf k) → n ≡ first (parentScale (scaleOf k)) + indexOf k / parts (scaleOf k) → child n (scaleOf k) (indexOf k % parts (scaleOf k) + 1) ≡ answer k
 unfolding child
 again k n h z e =
     let s = scaleOf k in
@@ -89,11 +89,11 @@ again k n h z e =
     let r = ranged k h in
     let t : Ranged (parentScale s) n = record { scale = above (r .scale) d; low = omega (arith, e); high = omega (arith, e, parent-in k h d) } in
     let q : scaleOf n ≡ parentScale s = scale-is (parentScale s) n t in
-    let f : n - first (parentScale s) ≡ i / perParent s = omega (arith, e) in
+    let f : n - first (parentScale s) ≡ i / parts s = omega (arith, e) in
     let g : isSheet n ≡ true = le-leb n 7_953_173 (omega (arith, e, parent-low k h d)) in
-    let few : i % perParent s + 1 ≤ perParent s = left-few (parts s) i (parted (r .scale) d .some) in
-    let sum : first s + (i / perParent s * perParent s + (i % perParent s + 1 - 1)) ≡ k = omega (arith, div-add-mod' i (perParent s), r .low) in
-    rw (g, is-scale (r .scale), q, eq-eqb (parentScale s) (parentScale s) refl, le-leb 1 (i % perParent s + 1) (omega arith), le-leb (i % perParent s + 1) (perParent s) few, f)
+    let few : i % parts s + 1 ≤ parts s = left-few (side s) i (parted (r .scale) d .some) in
+    let sum : first s + (i / parts s * parts s + (i % parts s + 1 - 1)) ≡ k = omega (arith, div-add-mod' i (parts s), r .low) in
+    rw (g, is-scale (r .scale), q, eq-eqb (parentScale s) (parentScale s) refl, le-leb 1 (i % parts s + 1) (omega arith), le-leb (i % parts s + 1) (parts s) few, f)
     (ap answer sum)
 
 pub parent-has-child : (k : ℕ) {n : ℕ} → parent k ≡ answer n → (number : ℕ) × (child n (scaleOf k) number ≡ answer k)
@@ -101,10 +101,10 @@ unfolding parent
 parent-has-child k {n} e =
     let a = passed 3 (isSheet k) _ e in
     let b = passed 6 (1 ≤? parentScale (scaleOf k)) _ (a .1) in
-    (indexOf k % perParent (scaleOf k) + 1, again k n (a .0) (leb-true 1 (parentScale (scaleOf k)) (b .0)) (sym (same-answer (b .1))))
+    (indexOf k % parts (scaleOf k) + 1, again k n (a .0) (leb-true 1 (parentScale (scaleOf k)) (b .0)) (sym (same-answer (b .1))))
 
 -- the numbers run row by row from the upper left of the parent, from 1
-pub child-is-at : (n s number : ℕ) {k : ℕ} → child n s number ≡ answer k → placeOf k ≡ childPlace (parts s) (placeOf n) number
+pub child-is-at : (n s number : ℕ) {k : ℕ} → child n s number ≡ answer k → placeOf k ≡ childPlace (side s) (placeOf n) number
 child-is-at n s number {k} e =
     let a = child-answered n s number e in
     let x : Indexed s (k - first s) = record { scale = a .part .scale; in-sheets = omega (arith, range a .low, range a .high) } in
@@ -138,13 +138,13 @@ child-lies-within n s number {k} e =
     let h = parted (c .scale) (child-deep c) .some in
     let up = placeOf n in
     let j = number - 1 in
-    let wide : millimetres (width (scaleOf n)) ≡ millimetres (width s) * parts s = omega (arith, rules (c .scale) .wide-parts, ap width (c .from)) in
-    let high : millimetres (height (scaleOf n)) ≡ millimetres (height s) * parts s = omega (arith, rules (c .scale) .high-parts, ap height (c .from)) in
-    let x = part-in (up .column) (parts s) (j % parts s) (millimetres (width s)) (mod-lt j h) in
-    let y = part-in (up .row) (parts s) (j / parts s) (millimetres (height s)) (quot h (omega (arith, c .one, c .last))) in
-    let o : OnGrid s (childPlace (parts s) up number) = subst (OnGrid s) (child-is-at n s number e) (subst (λ (t : ℕ). OnGrid t (placeOf k)) (child-scale a) (on-grid k (child-sheet a))) in
-    let g : groundOf k ≡ edgesOf s (childPlace (parts s) up number) = ap₂ edgesOf (child-scale a) (child-is-at n s number e) in
-    rw g (within-edges up (childPlace (parts s) up number) (on-grid n (c .sheet)) o
+    let wide : millimetres (width (scaleOf n)) ≡ millimetres (width s) * side s = omega (arith, rules (c .scale) .wide-parts, ap width (c .from)) in
+    let high : millimetres (height (scaleOf n)) ≡ millimetres (height s) * side s = omega (arith, rules (c .scale) .high-parts, ap height (c .from)) in
+    let x = part-in (up .column) (side s) (j % side s) (millimetres (width s)) (mod-lt j h) in
+    let y = part-in (up .row) (side s) (j / side s) (millimetres (height s)) (quot h (omega (arith, c .one, c .last))) in
+    let o : OnGrid s (childPlace (side s) up number) = subst (OnGrid s) (child-is-at n s number e) (subst (λ (t : ℕ). OnGrid t (placeOf k)) (child-scale a) (on-grid k (child-sheet a))) in
+    let g : groundOf k ≡ edgesOf s (childPlace (side s) up number) = ap₂ edgesOf (child-scale a) (child-is-at n s number e) in
+    rw g (within-edges up (childPlace (side s) up number) (on-grid n (c .sheet)) o
     (record { west = rw wide (x .0); east = rw wide (x .1); north = rw high (y .0); south = rw high (y .1) }))
 
 -- ---- step and offset

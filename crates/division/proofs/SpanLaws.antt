@@ -1,14 +1,33 @@
 -- A line that is cut into cells of a size: a stretch of it meets the cells from its first number's to its last number's. Assumes nothing.
-use mathlib.Core.Path.{_≡_, _∙_}
+use mathlib.Core.Path.{_≡_, ap, _∙_}
+use mathlib.Core.List.{List}
 use mathlib.Core.Bool.{Bool, true, false, _&&_, and-false}
 use Prim.Native.Nat.{ℕ, _+_, _-_, _*_, _/_, _≤_, _<_}
 use native.Mathlib.Nat.{le-div-iff-mul-le, div-lt-iff-lt-mul, div-le-self, div-add-mod', zero-add}
 use native.Mathlib.Omega.{arith}
 use borrow.Author.Tests.{lt-ltb, le-ltb}
+use lib.ListN.{length}
+use Rattle.division.specs.declared.cover.Span.{Span}
 use Rattle.division.specs.Words.{_<?_, from, keep}
-use Rattle.division.specs.Given.{Stretch, spanOf, Run}
-use Rattle.division.proofs.RangeLaws.{keep-range}
+use Rattle.division.specs.Cover.{spanned}
+use Rattle.division.specs.Given.{Stretch, spanOf}
+use Rattle.division.proofs.RangeLaws.{length-from, getD-from, keep-range}
 use Rattle.division.proofs.MadeLaws.{quot}
+
+-- numbers that follow one another below a limit, as a span of them
+pub record Spans (l : List ℕ) (limit : ℕ) (r : Span) : Type 0 where
+  pub listed : l ≡ from (r .first) (r .count)
+  pub some : 0 < r .count
+  pub inside : r .first + r .count ≤ limit
+
+pub span-is : {l : List ℕ} {limit : ℕ} {r : Span} → Spans l limit r → spanned l ≡ r
+span-is {r = r} s = ap spanned (s .listed) ∙ (λ i. record { first = first i; count = count i })
+  where
+    first : spanned (from (r .first) (r .count)) .first ≡ r .first
+    first = getD-from (r .first) (r .count) 0 (s .some) ∙ omega arith
+
+    count : length (from (r .first) (r .count)) ≡ r .count
+    count = length-from (r .first) (r .count)
 
 -- cell c begins before the stretch from a up to b ends, and ends after it begins
 abbrev pub meets : ℕ → ℕ → ℕ → ℕ → Bool
@@ -42,9 +61,9 @@ module _ {a b size : ℕ} (t : Stretch a b size) where
         let e : b - 1 < c * size = div-lt-iff-lt-mul (t .some) .0 (omega (arith, ordered)) in
         tests c l ∙ rw (le-ltb (c * size) b (omega arith))
 
-    pub span-run : Run (keep f (from 0 count)) count (spanOf a b size)
+    pub span-run : Spans (keep f (from 0 count)) count (spanOf a b size)
     span-run =
         let rest = count - (a / size + spanOf a b size .count) in
         let e : a / size + (spanOf a b size .count + rest) ≡ count = omega (arith, reach, ordered) in
         let k : keep f (from 0 (a / size + (spanOf a b size .count + rest))) ≡ from (0 + a / size) (spanOf a b size .count) = keep-range f 0 (a / size) (spanOf a b size .count) rest outside met (λ c h l. past c h (omega arith)) in
-        record { listed = rw (e, zero-add (a / size)) at k; inside = omega (arith, reach, ordered) }
+        record { listed = rw (e, zero-add (a / size)) at k; some = omega arith; inside = omega (arith, reach, ordered) }

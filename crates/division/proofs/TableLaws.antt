@@ -9,7 +9,7 @@ use native.Mathlib.Omega.{arith}
 use borrow.Author.Tests.{leb-true, leb-false, le-leb}
 use lib.ListN.{getD, List·getD-eq-default}
 use Rattle.division.specs.Words.{_≤?_, _=?_, from, keep}
-use Rattle.division.specs.Table.{isScale, Made, TableRow, partsOf, ofArea, ofScale, table, tableRow, rowsOf, columnsOf, width, height, made, rows, columns, parentScale, parts, perParent, sheets, first, codeRow, scales}
+use Rattle.division.specs.Table.{isScale, Made, TableRow, sideOf, ofArea, ofScale, table, tableRow, rowsOf, columnsOf, width, height, made, rows, columns, parentScale, side, parts, sheets, first, codeRow, scales, theScale}
 use Rattle.division.specs.Given.{IsScale}
 use Rattle.division.proofs.TestLaws.{both}
 use Rattle.division.proofs.MadeLaws.{Sound}
@@ -32,14 +32,14 @@ before (suc s) = before s + sheets s
 -- how a scale is made, by its parent
 abbrev pub grown : ℕ → ℕ → Made
 grown s zero = ofArea (rows s) (columns s)
-grown s (suc p) = ofScale (suc p) (made (suc p)) (parts s)
+grown s (suc p) = ofScale (suc p) (made (suc p)) (side s)
 
 pub record Rules (s : ℕ) : Type 0 where
   -- the widths and heights divide the area, and the parent into its parts
   pub wide : width s * columns s ≡ 600_000
   pub high : height s * rows s ≡ 600_000
-  pub wide-parts : width s * parts s ≡ width (parentScale s)
-  pub high-parts : height s * parts s ≡ height (parentScale s)
+  pub wide-parts : width s * side s ≡ width (parentScale s)
+  pub high-parts : height s * side s ≡ height (parentScale s)
   -- the sums: a scale begins where the scales before it end
   pub begins : first s ≡ before s
   pub ends : first s + sheets s ≡ before (suc s)
@@ -49,13 +49,13 @@ pub record Rules (s : ℕ) : Type 0 where
   pub some : 0 < sheets s
   pub few : sheets s ≤ 6_000_000
   pub low : first s + sheets s ≤ 7_953_174
-  pub few-parts : parts s ≤ 25
+  pub few-parts : side s ≤ 25
   -- the parent comes before
   pub above : parentScale s < s
   pub grows : made s ≡ grown s (parentScale s)
   pub sound : Sound (made s)
   -- the width tells the scale
-  pub told : getD (keep (λ t. width t =? width s) scales) 0 0 ≡ s
+  pub told : theScale (λ t. width t =? width s) ≡ s
   -- its row stands where the code's table has it
   pub listed : getD (map codeRow scales) (s - 1) (codeRow 0) ≡ codeRow s
 
@@ -87,13 +87,13 @@ no-row (suc s) e =
     List·getD-eq-default table (tableRow 0) l
 
 -- of any number the parts are few
-pub few-parts : (s : ℕ) → perParent s ≤ 625
+pub few-parts : (s : ℕ) → parts s ≤ 625
 unfolding table tableRow
 few-parts s = by (isScale s) refl
   where
-    by : (b : Bool) → isScale s ≡ b → perParent s ≤ 625
+    by : (b : Bool) → isScale s ≡ b → parts s ≤ 625
     by true e = let k = each Rules 9 nine s (scale s e .one) (scale s e .nine) .few-parts in mul-le-mul k k
-    by false e = let z : perParent s ≡ 0 = ap (λ (r : TableRow). partsOf (r .made) * partsOf (r .made)) (no-row s e) in omega arith
+    by false e = let z : parts s ≡ 0 = ap (λ (r : TableRow). sideOf (r .made) * sideOf (r .made)) (no-row s e) in omega arith
 
 pub rules : {s : ℕ} → IsScale s → Rules s
 rules {s} h = each Rules 9 nine s (h .one) (h .nine)
@@ -104,4 +104,4 @@ unfolding table tableRow rowsOf columnsOf
 all-sheets = refl
 
 pub width-tells : {s t : ℕ} → IsScale s → IsScale t → width s ≡ width t → s ≡ t
-width-tells h l e = sym (rules h .told) ∙ ap (λ (w : ℕ). getD (keep (λ u. width u =? w) scales) 0 0) e ∙ rules l .told
+width-tells h l e = sym (rules h .told) ∙ ap (λ (w : ℕ). theScale λ u. width u =? w) e ∙ rules l .told

@@ -12,10 +12,10 @@ use Rattle.division.specs.Words.{_≤ᶻ_, _<ᶻ_, _<?_}
 use Rattle.division.specs.Table.{width, height, rows, columns}
 use Rattle.division.specs.Grid.{millimetres, area, westOf, northOf}
 use Rattle.division.specs.Cover.{columnsIn, rowsIn}
-use Rattle.division.specs.Given.{Rising, Seen, Stretch, spanOf, Run}
+use Rattle.division.specs.Given.{Rising, Seen, Stretch, spanOf}
 use Rattle.division.proofs.TestLaws.{both, from-pos, after-pos, pos-minus, same-leb}
 use Rattle.division.proofs.GridLaws.{some-width, some-height, all-columns, all-rows, high-in, north-is}
-use Rattle.division.proofs.SpanLaws.{meets, span-run}
+use Rattle.division.proofs.SpanLaws.{Spans, meets, span-run}
 
 -- the edges of a window in the area, as plain numbers
 record Bounds (w : Edges) : Type 0 where
@@ -95,7 +95,7 @@ module _ {s : ℕ} {w : Edges} (h : Seen s w) where
       rw (b .is, pos-minus 5_170_000_000 (b .north) (b .north-in), pos-minus 5_170_000_000 (b .south) (omega (arith, b .north-in, b .high)))
       (record { some = some-height (h .scale); rises = omega (arith, b .north-in, b .high); short = omega (arith, b .south-in) })
 
-  pub columns-run : Run (columnsIn s w) (columns s) (spanOf (natAbs (w .west -ℤ area .west)) (natAbs (w .east -ℤ area .west)) (millimetres (width s)))
+  pub columns-run : Spans (columnsIn s w) (columns s) (spanOf (natAbs (w .west -ℤ area .west)) (natAbs (w .east -ℤ area .west)) (millimetres (width s)))
   unfolding columnsIn
   columns-run = span-run across (columns s) (all-columns (h .scale)) (columnMeets s w) tests
     where
@@ -107,7 +107,7 @@ module _ {s : ℕ} {w : Edges} (h : Seen s w) where
           let y = same (b .west) (200_000_000 + (c + 1) * g) (b .west - 200_000_000) ((c + 1) * g) (λ k. omega arith) (λ k. omega arith) in
           rw (b .is, pos-minus (b .west) 200_000_000 (b .west-in), pos-minus (b .east) 200_000_000 (omega (arith, b .west-in, b .wide)), x, y)
 
-  pub rows-run : Run (rowsIn s w) (rows s) (spanOf (natAbs (area .north -ℤ w .north)) (natAbs (area .north -ℤ w .south)) (millimetres (height s)))
+  pub rows-run : Spans (rowsIn s w) (rows s) (spanOf (natAbs (area .north -ℤ w .north)) (natAbs (area .north -ℤ w .south)) (millimetres (height s)))
   unfolding rowsIn
   rows-run = span-run down (rows s) (all-rows (h .scale)) (rowMeets s w) tests
     where

@@ -11,6 +11,9 @@ use Rattle.division.specs.declared.Located.{Located}
 use Rattle.division.specs.declared.Located.the-variants as located
 use Rattle.division.specs.declared.Corners.{Corners}
 use Rattle.division.specs.declared.Corners.the-variants as corners
+use Rattle.division.specs.declared.cover.Block.{Block}
+use Rattle.division.specs.declared.cover.Windowed.{Windowed}
+use Rattle.division.specs.declared.cover.Windowed.the-variants as windowed
 use Rattle.division.specs.declared.Apart.{Apart}
 use Rattle.division.specs.declared.Apart.the-variants as apart
 
@@ -25,6 +28,10 @@ spotPaper (located.Refused why) = onPaper why
 abbrev pub cornersPaper : Corners → Paper Edges
 cornersPaper (corners.Framed e) = answer e
 cornersPaper (corners.Refused why) = onPaper why
+
+abbrev pub blockPaper : Windowed → Paper Block
+blockPaper (windowed.Meets b) = answer b
+blockPaper (windowed.Refused why) = onPaper why
 
 abbrev pub offsetPaper : Apart → Paper Offset
 offsetPaper (apart.By o) = answer o

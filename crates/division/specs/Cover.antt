@@ -2,9 +2,11 @@
 use Prim.Native.Nat.{ℕ, _+_}
 use mathlib.Core.Bool.{Bool, _&&_}
 use mathlib.Core.List.{List, map, flatMap}
-use lib.ListN.{length}
-use Rattle.refusal.specs.Paper.{Paper, refuse_unless_, _>>_, laid}
+use lib.ListN.{length, getD}
+use Rattle.refusal.specs.Paper.{Paper, answer, refuse_unless_, _>>_, laid}
 use Rattle.division.specs.declared.Edges.{Edges}
+use Rattle.division.specs.declared.cover.Span.{Span}
+use Rattle.division.specs.declared.cover.Block.{Block}
 use Rattle.division.specs.Words.{_≤?_, _<ᶻ_, from, keep}
 use Rattle.division.specs.Table.{isScale, rows, columns}
 use Rattle.division.specs.Grid.{area, within, westOf, northOf}
@@ -28,11 +30,25 @@ sheetsIn s w = block s (rowsIn s w) (columnsIn s w)
 abbrev pub isWindow : Edges → Bool
 isWindow w = w .west <ᶻ w .east && w .south <ᶻ w .north
 
--- "Cover: 2, 7, 8, 9, 10"
-unfoldable pub cover : ℕ → Edges → ℕ → Paper (List ℕ)
-cover s w room = do
+-- "Cover: 2, 7, 8, 9", whatever its sheets are asked for
+unfoldable pub coverable : ℕ → Edges → Paper Unit
+coverable s w = do
   refuse 2 unless isScale s
   refuse 7 unless isWindow w
   refuse 8 unless within area w
   refuse 9 unless length (sheetsIn s w) ≤? 4_096
+
+-- ", 10"
+unfoldable pub cover : ℕ → Edges → ℕ → Paper (List ℕ)
+cover s w room = do
+  coverable s w
   laid (sheetsIn s w) room
+
+-- the rows and the columns by themselves: they follow one another, so the first of each and their count tell them
+abbrev pub spanned : List ℕ → Span
+spanned l = record { first = getD l 0 0; count = length l }
+
+unfoldable pub blockIn : ℕ → Edges → Paper Block
+blockIn s w = do
+  coverable s w
+  answer (record { down = spanned (rowsIn s w); across = spanned (columnsIn s w) })

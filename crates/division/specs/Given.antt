@@ -2,13 +2,12 @@
 use Prim.Native.Nat.{ℕ, _+_, _-_, _*_, _/_, _≤_, _<_}
 use mathlib.Core.Path.{_≡_}
 use mathlib.Core.Bool.{true}
-use mathlib.Core.List.{List}
 use lib.IntN.{ℤ, pos}
 use Rattle.division.specs.declared.Edges.{Edges}
 use Rattle.division.specs.declared.Place.{Place}
 use Rattle.division.specs.declared.Spot.{Spot}
 use Rattle.division.specs.declared.cover.Span.{Span}
-use Rattle.division.specs.Words.{_≤ᶻ_, _<ᶻ_, from}
+use Rattle.division.specs.Words.{_≤ᶻ_, _<ᶻ_}
 use Rattle.division.specs.Table.{rows, columns, sheets}
 use Rattle.division.specs.Grid.{area, within}
 use Rattle.division.specs.Cover.{isWindow}
@@ -51,11 +50,10 @@ pub record Parted (k : ℕ) : Type 0 where
   pub few : k ≤ 25
 
 -- part number `number` of a parent at index `up`
-pub record Part (k up number : ℕ) : Type 0 where
-  pub parted : Parted k
+pub record Part (parts up number : ℕ) : Type 0 where
   pub one : 1 ≤ number
-  pub last : number ≤ k * k
-  pub few : (up + 1) * (k * k) ≤ 6_000_000
+  pub last : number ≤ parts
+  pub few : (up + 1) * parts ≤ 6_000_000
 
 -- part number `number` of a parent at a place
 pub record PartPlace (k : ℕ) (up : Place) (number : ℕ) : Type 0 where
@@ -96,13 +94,8 @@ pub record Seen (s : ℕ) (w : Edges) : Type 0 where
   pub window : isWindow w ≡ true
   pub inside : within area w ≡ true
 
--- a span is those numbers, below a limit
-pub record Run (l : List ℕ) (limit : ℕ) (r : Span) : Type 0 where
-  pub listed : l ≡ from (r .first) (r .count)
-  pub inside : r .first + r .count ≤ limit
-
 -- rows and columns on the grid of a scale, for whose sheets there is room
-pub record Fills (s : ℕ) (down across : Span) (room : ℕ) : Type 0 where
+pub record BlockRoom (s : ℕ) (down across : Span) (room : ℕ) : Type 0 where
   pub scale : IsScale s
   pub in-rows : down .first + down .count ≤ rows s
   pub in-columns : across .first + across .count ≤ columns s

@@ -10,7 +10,7 @@ use Rattle.division.specs.declared.Offset.{Offset}
 use Rattle.division.specs.declared.Neighbour.{Neighbour}
 use Rattle.division.specs.declared.Neighbour.the-variants.{Sheet, None}
 use Rattle.division.specs.Words.{_≤?_, _=?_, _≤ᶻ_, _<ᶻ_, between}
-use Rattle.division.specs.Table.{isScale, rows, columns, first, parentScale, parts, perParent}
+use Rattle.division.specs.Table.{isScale, rows, columns, first, parentScale, parts}
 use Rattle.division.specs.Sheet.{isSheet, scaleOf, indexOf, partIndex, placeOf, spotOf, sheetOf}
 
 -- "Parent is as in 'made by'; scales 1 to 3 have none"
@@ -19,11 +19,11 @@ parent n = do
   let s = scaleOf n
   refuse 3 unless isSheet n
   refuse 6 unless 1 ≤? parentScale s
-  answer (first (parentScale s) + indexOf n / perParent s)
+  answer (first (parentScale s) + indexOf n / parts s)
 
 -- a sheet of a scale has at scale s a part of that number
 abbrev pub isPart : ℕ → ℕ → ℕ → Bool
-isPart s above number = parentScale s =? above && between 1 (perParent s) number
+isPart s above number = parentScale s =? above && between 1 (parts s) number
 
 -- "A child is asked by scale and number"; "Child: 3, 2, 6"
 unfoldable pub child : ℕ → ℕ → ℕ → Paper ℕ

@@ -1,14 +1,13 @@
 -- Sheet numbers and places, the sheet of a point, the corners of a sheet. Document 01, "The grid".
 use Prim.Native.Nat.{ℕ, _+_, _-_, _*_, _/_, _%_}
-use mathlib.Core.Bool.{Bool, cond, _&&_}
+use mathlib.Core.Bool.{Bool, _&&_}
 use lib.IntN.{ℤ}
-use lib.ListN.{length}
 use Rattle.refusal.specs.Paper.{Paper, answer, refuse_unless_, _>>_}
 use Rattle.division.specs.declared.Edges.{Edges}
 use Rattle.division.specs.declared.Place.{Place}
 use Rattle.division.specs.declared.Spot.{Spot}
-use Rattle.division.specs.Words.{_≤?_, _<?_, keep}
-use Rattle.division.specs.Table.{Made, ofArea, ofScale, isScale, scales, made, rows, columns, first}
+use Rattle.division.specs.Words.{_≤?_, _<?_, between}
+use Rattle.division.specs.Table.{Made, ofArea, ofScale, isScale, theScale, made, rows, columns, first, last}
 use Rattle.division.specs.Grid.{area, owns, columnAt, rowAt, edgesOf}
 
 -- "Within a parent, sheets are numbered from 1, row by row from the upper left", for a parent in k × k
@@ -30,12 +29,12 @@ areaPlace c i = record { row = i / c; column = i % c }
 
 -- "For the others it is parent index × sheets per parent + number − 1"
 abbrev pub partIndex : ℕ → ℕ → ℕ → ℕ
-partIndex k up number = up * (k * k) + (number - 1)
+partIndex parts up number = up * parts + (number - 1)
 
 -- the index of a place, and back, the place of an index
 unfoldable pub indexAt : Made → Place → ℕ
 indexAt (ofArea r c) p = areaIndex c p
-indexAt (ofScale s m k) p = partIndex k (indexAt m (parentPlace k p)) (numberIn k p)
+indexAt (ofScale s m k) p = partIndex (k * k) (indexAt m (parentPlace k p)) (numberIn k p)
 
 unfoldable pub placeAt : Made → ℕ → Place
 placeAt (ofArea r c) i = areaPlace c i
@@ -49,19 +48,19 @@ isSheet n = n ≤? 7_953_173
 abbrev pub sheetOf : ℕ → Place → ℕ
 sheetOf s p = first s + indexAt (made s) p
 
--- and back: as many scales have a first number that is not above a sheet as the number of its scale says
+-- and back: the scale whose first and last number it lies between; of no sheet 0
 unfoldable pub scaleOf : ℕ → ℕ
-scaleOf n = length (keep (λ s. first s ≤? n) scales)
-
--- of no sheet no scale, 0
-abbrev pub scaleIn : ℕ → ℕ
-scaleIn n = cond (isSheet n) (scaleOf n) 0
+scaleOf n = theScale λ s. between (first s) (last s) n
 
 abbrev pub indexOf : ℕ → ℕ
 indexOf n = n - first (scaleOf n)
 
 abbrev pub placeOf : ℕ → Place
 placeOf n = placeAt (made (scaleOf n)) (indexOf n)
+
+-- "rows from the north, each row from the west": the places of a scale's sheets in the order in which they are read
+abbrev pub readingOrder : ℕ → ℕ
+readingOrder n = areaIndex (columns (scaleOf n)) (placeOf n)
 
 -- scale and place of a sheet, and the sheet at a place of a scale; a place off the grid gets 6, as a step off the grid does
 abbrev pub spotOf : ℕ → Spot

@@ -4,7 +4,7 @@ use mathlib.Core.Bool.{Bool}
 use mathlib.Core.List.{List, [], _∷_}
 use lib.ListN.{getD}
 use Rattle.division.specs.declared.table.Row.{Row}
-use Rattle.division.specs.Words.{between, from}
+use Rattle.division.specs.Words.{between, from, keep}
 
 -- "made by": the area in rows and columns, or a scale (its number, and how it is made) in k × k
 pub data Made : Type 0 where
@@ -55,6 +55,10 @@ isScale s = between 1 9 s
 abbrev pub scales : List ℕ
 scales = from 1 9
 
+-- the scale that passes a test, the first if several do; 0 for none
+abbrev pub theScale : (ℕ → Bool) → ℕ
+theScale test = getD (keep test scales) 0 0
+
 -- the table's row for a scale, and a row of zeros for no scale
 unfoldable pub tableRow : ℕ → TableRow
 unfolding table
@@ -69,14 +73,14 @@ unfoldable pub columnsOf : Made → ℕ
 columnsOf (ofArea r c) = c
 columnsOf (ofScale s m k) = columnsOf m * k
 
--- the parent's scale, and the parts of a parent each way; 0 for none
+-- the parent's scale, and how many parts of a parent lie each way; 0 for none
 abbrev pub parentOf : Made → ℕ
 parentOf (ofArea r c) = 0
 parentOf (ofScale s m k) = s
 
-abbrev pub partsOf : Made → ℕ
-partsOf (ofArea r c) = 0
-partsOf (ofScale s m k) = k
+abbrev pub sideOf : Made → ℕ
+sideOf (ofArea r c) = 0
+sideOf (ofScale s m k) = k
 
 -- "What belongs to a scale is asked of the scale itself"
 abbrev pub width : ℕ → ℕ
@@ -97,11 +101,12 @@ columns s = columnsOf (made s)
 abbrev pub parentScale : ℕ → ℕ
 parentScale s = parentOf (made s)
 
-abbrev pub parts : ℕ → ℕ
-parts s = partsOf (made s)
+abbrev pub side : ℕ → ℕ
+side s = sideOf (made s)
 
-abbrev pub perParent : ℕ → ℕ
-perParent s = parts s * parts s
+-- "parts per parent"
+abbrev pub parts : ℕ → ℕ
+parts s = side s * side s
 
 abbrev pub sheets : ℕ → ℕ
 sheets s = rows s * columns s
@@ -120,6 +125,7 @@ codeRow s = record {
   rows = rows s;
   columns = columns s;
   parts = parts s;
+  side = side s;
   parent = parentScale s;
   first = first s;
 }

@@ -1,12 +1,11 @@
 -- The words of the theorems that tie the formulas to document 01's sentences. Nothing here is part of a promise.
-use Prim.Native.Nat.{ℕ, _+_, _*_}
+use Prim.Native.Nat.{ℕ}
 use mathlib.Core.Path.{_≡_}
 use mathlib.Core.Bool.{true}
 use lib.IntN.{ℤ}
 use Rattle.division.specs.declared.Edges.{Edges}
-use Rattle.division.specs.Table.{columns}
 use Rattle.division.specs.Grid.{owns}
-use Rattle.division.specs.Sheet.{isSheet, scaleOf, placeOf, groundOf}
+use Rattle.division.specs.Sheet.{isSheet, scaleOf, groundOf}
 
 -- sheet k is of scale s, and the point lies in it
 pub record Holds (s : ℕ) (e n : ℤ) (k : ℕ) : Type 0 where
@@ -24,7 +23,3 @@ pub record Shares (s : ℕ) (w : Edges) (k : ℕ) : Type 0 where
 -- two sheets stand for the same ground: the same set of points
 abbrev pub SameGround : ℕ → ℕ → Type 0
 SameGround j k = (e n : ℤ) → owns (groundOf j) e n ≡ owns (groundOf k) e n
-
--- "rows from the north, each row from the west"
-abbrev pub readingOrder : ℕ → ℕ
-readingOrder k = placeOf k .row * columns (scaleOf k) + placeOf k .column

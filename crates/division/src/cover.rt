@@ -18,16 +18,28 @@ ghost use lib.Seq.{sets};
 ghost use Rattle.refusal.specs.Paper.{counted, roomAfter};
 ghost use Rattle.refusal.specs.Numbers.{laidPaper};
 ghost use Rattle.division.specs.Words.{from};
-ghost use Rattle.division.specs.Table.{rows, columns};
 ghost use Rattle.division.specs.Grid.{area, within};
 ghost use Rattle.division.specs.Sheet.{sheetOf};
-ghost use Rattle.division.specs.Cover.{isWindow, columnsIn, rowsIn, block, cover};
-ghost use Rattle.division.specs.Given.{OnGrid, Stretch, spanOf, Seen, Run, Fills};
+ghost use Rattle.division.specs.Cover.{isWindow, columnsIn, rowsIn, block, spanned, blockIn, cover};
+ghost use Rattle.division.specs.Answers.{blockPaper};
+ghost use Rattle.division.specs.Given.{OnGrid, Stretch, spanOf, Seen, BlockRoom};
 
-// A run of rows or of columns.
+// Rows or columns that follow one another.
 pub struct Span {
     pub first: u32,
     pub count: u32,
+}
+
+// Rows and columns.
+pub struct Block {
+    pub down: Span,
+    pub across: Span,
+}
+
+// The rows and columns that a window meets.
+pub enum Windowed {
+    Meets(Block),
+    Refused(Refusal),
 }
 
 fn is_window(w: Edges) -> bool
@@ -59,17 +71,17 @@ fn span_of(a: u64, b: u64, size: u64) -> Span
 // The columns and the rows of a scale that share a point with a window in the area.
 fn columns_in(s: u32, w: Edges) -> Span
     requires { ⌜ Seen s w ⌝ }
-    ensures { λ r. ⌜ Run (columnsIn s w) (columns s) r ⌝ }
+    ensures { λ r. ⌜ r ≡ spanned (columnsIn s w) ⌝ }
 {
-    let size = millimetres(Scale(s).row().width);
+    let size = millimetres(Scale(s).width());
     span_of(distance(w.west, WEST), distance(w.east, WEST), size)
 }
 
 fn rows_in(s: u32, w: Edges) -> Span
     requires { ⌜ Seen s w ⌝ }
-    ensures { λ r. ⌜ Run (rowsIn s w) (rows s) r ⌝ }
+    ensures { λ r. ⌜ r ≡ spanned (rowsIn s w) ⌝ }
 {
-    let size = millimetres(Scale(s).row().height);
+    let size = millimetres(Scale(s).height());
     span_of(distance(NORTH, w.north), distance(NORTH, w.south), size)
 }
 
@@ -89,7 +101,7 @@ fn sheet_in(s: u32, row: u32, column: u32) -> u32
 
 // Writes the sheets of the rows and columns, rows from the north, each from the west.
 fn fill(s: u32, down: Span, across: Span, room: &mut [u32])
-    requires { ⌜ Fills s down across (length (now room)) ⌝ }
+    requires { ⌜ BlockRoom s down across (length (now room)) ⌝ }
     ensures { λ _. ⌜ now (room .exit) ≡ sets (now (room .entry)) 0 (block s (from (down .first) (down .count)) (from (across .first) (across .count))) ⌝ }
 {
     let top = down.first;
@@ -108,29 +120,48 @@ fn fill(s: u32, down: Span, across: Span, room: &mut [u32])
     }
 }
 
+// The rows and columns of a scale that share a point with a window, if their sheets are not too many: all that is refused of a cover, but
+// for the room.
+pub fn block_in(scale: u32, window: Edges) -> Windowed
+    ensures { λ r. ⌜ blockPaper r ≡ blockIn scale window ⌝ }
+{
+    if !is_scale(scale) {
+        return Windowed::Refused(Refusal::NoScale);
+    }
+    if !is_window(window) {
+        return Windowed::Refused(Refusal::WindowOrder);
+    }
+    if !in_area(window) {
+        return Windowed::Refused(Refusal::WindowOutside);
+    }
+    let down = rows_in(scale, window);
+    let across = columns_in(scale, window);
+    let count = down.count * across.count;
+    if 4_096 < count {
+        return Windowed::Refused(Refusal::TooMany);
+    }
+    Windowed::Meets(Block {
+        down: down,
+        across: across,
+    })
+}
+
 // The sheets of a scale that share a point with a window, laid into lent room.
 pub fn cover(scale: u32, window: Edges, room: &mut [u32]) -> Laid
     ensures { λ r. ⌜ laidPaper r ≡ counted (cover scale window (length (now (room .entry)))) ⌝ }
     ensures { λ r. ⌜ now (room .exit) ≡ roomAfter (cover scale window (length (now (room .entry)))) (now (room .entry)) ⌝ }
 {
-    if !is_scale(scale) {
-        return Laid::Refused(Refusal::NoScale);
+    match block_in(scale, window) {
+        Windowed::Refused(why) => Laid::Refused(why),
+        Windowed::Meets(b) => {
+            let down = b.down;
+            let across = b.across;
+            let count = (down.count * across.count) as usize;
+            if room.len() < count {
+                return Laid::Refused(Refusal::Room(count));
+            }
+            fill(scale, down, across, room);
+            Laid::Items(count)
+        }
     }
-    if !is_window(window) {
-        return Laid::Refused(Refusal::WindowOrder);
-    }
-    if !in_area(window) {
-        return Laid::Refused(Refusal::WindowOutside);
-    }
-    let down = rows_in(scale, window);
-    let across = columns_in(scale, window);
-    let count = (down.count * across.count) as usize;
-    if 4_096 < count {
-        return Laid::Refused(Refusal::TooMany);
-    }
-    if room.len() < count {
-        return Laid::Refused(Refusal::Room(count));
-    }
-    fill(scale, down, across, room);
-    Laid::Items(count)
 }

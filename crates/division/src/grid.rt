@@ -41,7 +41,7 @@ pub(crate) fn column_at(s: u32, e: i64) -> u32
     requires { ⌜ Across s e ⌝ }
     ensures { λ r. ⌜ r ≡ columnAt s e ⌝ }
 {
-    let w = millimetres(Scale(s).row().width);
+    let w = millimetres(Scale(s).width());
     (distance(e, WEST) / w) as u32
 }
 
@@ -49,7 +49,7 @@ pub(crate) fn row_at(s: u32, n: i64) -> u32
     requires { ⌜ Down s n ⌝ }
     ensures { λ r. ⌜ r ≡ rowAt s n ⌝ }
 {
-    let h = millimetres(Scale(s).row().height);
+    let h = millimetres(Scale(s).height());
     (distance(NORTH, n) / h) as u32
 }
 
@@ -58,7 +58,7 @@ fn west_of(s: u32, column: u32) -> i64
     requires { ⌜ ColumnEdge s column ⌝ }
     ensures { λ r. ⌜ r ≡ westOf s column ⌝ }
 {
-    let w = millimetres(Scale(s).row().width);
+    let w = millimetres(Scale(s).width());
     let x = WEST as u64 + column as u64 * w;
     x as i64
 }
@@ -67,7 +67,7 @@ fn north_of(s: u32, row: u32) -> i64
     requires { ⌜ RowEdge s row ⌝ }
     ensures { λ r. ⌜ r ≡ northOf s row ⌝ }
 {
-    let h = millimetres(Scale(s).row().height);
+    let h = millimetres(Scale(s).height());
     let y = NORTH as u64 - row as u64 * h;
     y as i64
 }

@@ -32,17 +32,19 @@ pub fn parent(sheet: u32) -> Found
     if up < 1 {
         return Found::Refused(Refusal::NoSuch);
     }
-    let each = t.parts * t.parts;
-    let above = Scale(up).row();
-    Found::Sheet(above.first + (sheet - t.first) / each)
+    let first = Scale(up).first();
+    let own = t.first;
+    let parts = t.parts;
+    let above = (sheet - own) / parts;
+    Found::Sheet(first + above)
 }
 
 fn is_part(s: u32, parent: u32, number: u32) -> bool
     ensures { λ r. ⌜ r ≡ isPart s parent number ⌝ }
 {
     let t = Scale(s).row();
-    let each = t.parts * t.parts;
-    (t.parent == parent) & ((1 <= number) & (number <= each))
+    let parts = t.parts;
+    (t.parent == parent) & ((1 <= number) & (number <= parts))
 }
 
 // Part number `number`, from 1, of a sheet, at a scale that is made from the sheet's own.
@@ -60,8 +62,9 @@ pub fn child(sheet: u32, scale: u32, number: u32) -> Found
         return Found::Refused(Refusal::NoSuch);
     }
     let t = Scale(scale).row();
-    let index = sheet - Scale(s).row().first;
-    Found::Sheet(t.first + part_index(t.parts, index, number))
+    let index = sheet - Scale(s).first();
+    let part = part_index(t.parts, index, number);
+    Found::Sheet(t.first + part)
 }
 
 // b - a.

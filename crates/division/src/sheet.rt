@@ -43,7 +43,7 @@ fn area_place(columns: u32, i: u32) -> Place
     }
 }
 
-// A part of a parent in k x k: its number there, its parent's place, its place, its index.
+// A part of a parent in k x k: its number there, its parent's place, its place; and by the parts per parent its index.
 fn number_in(k: u32, p: Place) -> u32
     requires { ⌜ Parted k ⌝ }
     ensures { λ r. ⌜ r ≡ numberIn k p ⌝ }
@@ -74,11 +74,11 @@ fn child_place(k: u32, up: Place, number: u32) -> Place
     }
 }
 
-pub(crate) fn part_index(k: u32, up: u32, number: u32) -> u32
-    requires { ⌜ Part k up number ⌝ }
-    ensures { λ r. ⌜ r ≡ partIndex k up number ⌝ }
+pub(crate) fn part_index(parts: u32, up: u32, number: u32) -> u32
+    requires { ⌜ Part parts up number ⌝ }
+    ensures { λ r. ⌜ r ≡ partIndex parts up number ⌝ }
 {
-    up * (k * k) + (number - 1)
+    up * parts + (number - 1)
 }
 
 // The index of a place of a scale, by way of its parents, and back. `index` is what the parts so far make, and `each` how many sheets of
@@ -92,10 +92,11 @@ fn index_of(s: u32, p: Place) -> u32
     let mut index: u32 = 0;
     let mut each: u32 = 1;
     while t.parent != 0 {
-        let k = t.parts;
+        let k = t.side;
+        let parts = t.parts;
         let j = number_in(k, at) - 1;
         index += each * j;
-        each = each * (k * k);
+        each *= parts;
         at = parent_place(k, at);
         t = Scale(t.parent).row();
     }
@@ -112,9 +113,9 @@ fn place_in(s: u32, i: u32) -> Place
     if parent == 0 {
         return area_place(t.columns, i);
     }
-    let each = t.parts * t.parts;
-    let up = place_in(parent, i / each);
-    child_place(t.parts, up, i % each + 1)
+    let parts = t.parts;
+    let up = place_in(parent, i / parts);
+    child_place(t.side, up, i % parts + 1)
 }
 
 // The sheet at a place of a scale.
@@ -122,17 +123,18 @@ pub(crate) fn number_at(s: u32, p: Place) -> u32
     requires { ⌜ OnGrid s p ⌝ }
     ensures { λ r. ⌜ r ≡ sheetOf s p ⌝ }
 {
-    Scale(s).row().first + index_of(s, p)
+    Scale(s).first() + index_of(s, p)
 }
 
 // The scale of a sheet: as many scales begin at or before it as its number says. All nine are asked, which takes no guess.
 pub(crate) fn scale_of(n: u32) -> u32
+    requires { ⌜ isSheet n ≡ true ⌝ }
     ensures { λ r. ⌜ r ≡ scaleOf n ⌝ }
 {
     let mut begun: u32 = 0;
     let mut s: u32 = 1;
     while s <= Scale::LAST {
-        begun += (Scale(s).row().first <= n) as u32;
+        begun += (Scale(s).first() <= n) as u32;
         s += 1;
     }
     begun
@@ -144,7 +146,7 @@ pub(crate) fn spot_of(n: u32) -> Spot
     ensures { λ r. ⌜ r ≡ spotOf n ⌝ }
 {
     let s = scale_of(n);
-    let first = Scale(s).row().first;
+    let first = Scale(s).first();
     let p = place_in(s, n - first);
     Spot { scale: s, place: p }
 }

@@ -3,16 +3,17 @@ use crate::sheet::is_sheet;
 use crate::sheet::scale_of;
 ghost use mathlib.Core.Path.{_≡_};
 ghost use Rattle.division.specs.Table.{isScale, codeRow, width, height, first, last};
-ghost use Rattle.division.specs.Sheet.{scaleIn};
+ghost use Rattle.division.specs.Sheet.{scaleOf};
 
-// What belongs to a scale. Width and height are metres; parts is the number of parts of a parent each way (2 for 2 x 2) and parent
-// the scale that it is made from, both 0 where it is made from the area.
+// What belongs to a scale. Width and height are metres. Parts is the number of parts per parent, side how many of them lie each way (4
+// and 2 for 2 x 2), and parent the scale that it is made from; all three are 0 where it is made from the area.
 pub struct Row {
     pub width: u32,
     pub height: u32,
     pub rows: u32,
     pub columns: u32,
     pub parts: u32,
+    pub side: u32,
     pub parent: u32,
     pub first: u32,
 }
@@ -24,6 +25,7 @@ const TABLE: [Row; 9] = [
         rows: 6,
         columns: 4,
         parts: 0,
+        side: 0,
         parent: 0,
         first: 0,
     },
@@ -33,6 +35,7 @@ const TABLE: [Row; 9] = [
         rows: 15,
         columns: 10,
         parts: 0,
+        side: 0,
         parent: 0,
         first: 24,
     },
@@ -42,6 +45,7 @@ const TABLE: [Row; 9] = [
         rows: 30,
         columns: 20,
         parts: 0,
+        side: 0,
         parent: 0,
         first: 174,
     },
@@ -50,7 +54,8 @@ const TABLE: [Row; 9] = [
         height: 10_000,
         rows: 60,
         columns: 40,
-        parts: 2,
+        parts: 4,
+        side: 2,
         parent: 3,
         first: 774,
     },
@@ -59,7 +64,8 @@ const TABLE: [Row; 9] = [
         height: 4_000,
         rows: 150,
         columns: 100,
-        parts: 5,
+        parts: 25,
+        side: 5,
         parent: 3,
         first: 3_174,
     },
@@ -68,7 +74,8 @@ const TABLE: [Row; 9] = [
         height: 2_000,
         rows: 300,
         columns: 200,
-        parts: 5,
+        parts: 25,
+        side: 5,
         parent: 4,
         first: 18_174,
     },
@@ -77,7 +84,8 @@ const TABLE: [Row; 9] = [
         height: 800,
         rows: 750,
         columns: 500,
-        parts: 25,
+        parts: 625,
+        side: 25,
         parent: 3,
         first: 78_174,
     },
@@ -86,7 +94,8 @@ const TABLE: [Row; 9] = [
         height: 400,
         rows: 1_500,
         columns: 1_000,
-        parts: 2,
+        parts: 4,
+        side: 2,
         parent: 7,
         first: 453_174,
     },
@@ -95,7 +104,8 @@ const TABLE: [Row; 9] = [
         height: 200,
         rows: 3_000,
         columns: 2_000,
-        parts: 2,
+        parts: 4,
+        side: 2,
         parent: 8,
         first: 1_953_174,
     },
@@ -107,6 +117,7 @@ const NO_ROW: Row = Row {
     rows: 0,
     columns: 0,
     parts: 0,
+    side: 0,
     parent: 0,
     first: 0,
 };
@@ -121,7 +132,7 @@ impl Scale {
 
     // The scale of a sheet; of a number that is no sheet, no scale.
     pub fn of(sheet: u32) -> Scale
-        ensures { λ r. ⌜ r .0 ≡ scaleIn sheet ⌝ }
+        ensures { λ r. ⌜ r .0 ≡ scaleOf sheet ⌝ }
     {
         if !is_sheet(sheet) {
             return Scale(0);
@@ -182,7 +193,7 @@ impl Scale {
     }
 }
 
-pub(crate) fn is_scale(s: u32) -> bool
+pub fn is_scale(s: u32) -> bool
     ensures { λ r. ⌜ r ≡ isScale s ⌝ }
 {
     (1 <= s) & (s <= Scale::LAST)

@@ -104,7 +104,7 @@ fields-place (ofScale z m k) (f ∷ fs) s e l =
 -- ---- fields and indexes, as the code counts
 
 -- the index of the place that fields name: no division is needed
-pub index-part : (s : ℕ) (m : Made) (k : ℕ) (fs : List ℕ) → Sound (ofScale s m k) → inRange (ofScale s m k) fs ≡ true → indexAt (ofScale s m k) (placeFrom (ofScale s m k) fs) ≡ partIndex k (indexAt m (placeFrom m (drop 1 fs))) (getD fs 0 0)
+pub index-part : (s : ℕ) (m : Made) (k : ℕ) (fs : List ℕ) → Sound (ofScale s m k) → inRange (ofScale s m k) fs ≡ true → indexAt (ofScale s m k) (placeFrom (ofScale s m k) fs) ≡ partIndex (k * k) (indexAt m (placeFrom m (drop 1 fs))) (getD fs 0 0)
 unfolding indexAt placeFrom
 index-part s m k fs h e =
     let t = part-range s m k fs e in

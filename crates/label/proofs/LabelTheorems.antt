@@ -10,7 +10,7 @@ use borrow.Author.Tests.{le-leb}
 use lib.Dec.{eqb, leb}
 use lib.ListN.{length, getD, drop, length-drop}
 use Rattle.refusal.specs.Paper.{answer}
-use Rattle.refusal.proofs.PaperLaws.{passed, same-answer}
+use Rattle.refusal.proofs.PaperLaws.{passed, found, same-answer}
 use Rattle.division.specs.declared.Place.{Place}
 use Rattle.division.specs.Words.{between, from, keep}
 use Rattle.division.specs.Table.{Made, ofArea, ofScale, table, tableRow, rowsOf, columnsOf, made, isScale}
@@ -23,7 +23,7 @@ use Rattle.division.proofs.TableLaws.{Each, each, rules, scale, is-scale}
 use Rattle.division.proofs.NumberLaws.{on-grid, sheet-place, scale-sheet, place-sheet, is-sheet}
 use Rattle.division.proofs.GroundTheorems.{ground-tells}
 use Rattle.label.specs.Text.{every, split, join, value, digits, withoutZeros, decimal}
-use Rattle.label.specs.Label.{markOf, fieldsOf, countOf, inRange, placeFrom, scaleNamed, isLabelByte, isField, wellFormed, numbersIn, sheetNamed, readLabel, labelOf}
+use Rattle.label.specs.Label.{markOf, fieldsOf, countOf, inRange, placeFrom, scaleWith, scaleNamed, isLabelByte, isField, wellFormed, numbersIn, sheetNamed, readLabel, labelOf}
 use Rattle.label.proofs.ValueLaws.{value-decimal}
 use Rattle.label.proofs.SplitLaws.{FreeAll, split-join, join-split}
 use Rattle.label.proofs.FieldLaws.{between-in, count-fields, place-fields, range-fields, on-from, fields-place}
@@ -77,10 +77,10 @@ split-back n ns = split-join 45 (decimal n) (map decimal ns) (digits-free (decim
 
 -- the nine scales: the first number and the count of fields name the scale
 record Marked (s : ℕ) : Type 0 where
-  named : scaleNamed (markOf s) (1 + countOf (made s)) ≡ s
+  named : scaleWith (markOf s) (1 + countOf (made s)) ≡ s
 
 nine : Each Marked 9
-unfolding table tableRow markOf countOf scaleNamed keep from
+unfolding table tableRow markOf countOf scaleWith keep from
 nine = search tt
 
 marked : {s : ℕ} → IsScale s → Marked s
@@ -114,7 +114,7 @@ module _ (n : ℕ) (h : isSheet n ≡ true) where
       let s = scaleOf n in
       ap (every isField) (split-back (markOf s) (fieldsOf (made s) (placeOf n))) ∙ all-fields (markOf s ∷ fieldsOf (made s) (placeOf n))
 
-  named-back : scaleNamed (markOf (scaleOf n)) (length (markOf (scaleOf n) ∷ fieldsOf (made (scaleOf n)) (placeOf n))) ≡ scaleOf n
+  named-back : scaleWith (markOf (scaleOf n)) (length (markOf (scaleOf n) ∷ fieldsOf (made (scaleOf n)) (placeOf n))) ≡ scaleOf n
   named-back =
       let e : length (markOf (scaleOf n) ∷ fieldsOf (made (scaleOf n)) (placeOf n)) ≡ 1 + countOf (made (scaleOf n)) = omega (arith, count-fields (made (scaleOf n)) (placeOf n)) in
       rw e (marked (on-grid n h .scale) .named)
@@ -131,20 +131,18 @@ module _ (n : ℕ) (h : isSheet n ≡ true) where
 -- what reading a label has found
 record Accepted (l : List ℕ) (n : ℕ) : Type 0 where
   s : ℕ
-  is : scaleNamed (getD (numbersIn l) 0 0) (length (numbersIn l)) ≡ s
+  named : scaleNamed (getD (numbersIn l) 0 0) (length (numbersIn l)) ≡ answer s
   formed : wellFormed l ≡ true
-  good : isScale s ≡ true
   range : inRange (made s) (drop 1 (numbersIn l)) ≡ true
   sheet : n ≡ sheetOf s (placeFrom (made s) (drop 1 (numbersIn l)))
 
 accepted : (l : List ℕ) (n : ℕ) → readLabel l ≡ answer n → Accepted l n
 unfolding readLabel sheetNamed
 accepted l n e =
-    let s = scaleNamed (getD (numbersIn l) 0 0) (length (numbersIn l)) in
     let a = passed 4 (wellFormed l) _ e in
-    let b = passed 4 (isScale s) _ (a .1) in
-    let c = passed 5 (inRange (made s) (drop 1 (numbersIn l))) _ (b .1) in
-    record { s = s; is = refl; formed = a .0; good = b .0; range = c .0; sheet = sym (same-answer (c .1)) }
+    let b = found (scaleNamed (getD (numbersIn l) 0 0) (length (numbersIn l))) (λ s. sheetNamed s (drop 1 (numbersIn l))) (a .1) in
+    let c = passed 5 (inRange (made (b .0)) (drop 1 (numbersIn l))) _ (b .2) in
+    record { s = b .0; named = b .1; formed = a .0; range = c .0; sheet = sym (same-answer (c .1)) }
 
 pub record Written (l : List ℕ) (n : ℕ) : Type 0 where
   pub sheet : isSheet n ≡ true
@@ -175,8 +173,8 @@ was-written l n e =
     let s = a .s in
     let ns = numbersIn l in
     let fs = drop 1 ns in
-    let h = scale s (a .good) in
-    let t : Named (getD ns 0 0) (length ns) s = rw (a .is) at (named (getD ns 0 0) (length ns) (λ z. omega (arith, h, a .is))) in
+    let t = named (getD ns 0 0) (length ns) s (a .named) in
+    let h = t .scale in
     let c : length fs ≡ countOf (made s) = omega (arith, length-drop 1 ns, t .count) in
     let g = on-from (made s) fs (rules h .sound) (a .range) in
     let p = placeFrom (made s) fs in

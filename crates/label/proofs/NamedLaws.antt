@@ -8,14 +8,17 @@ use native.Mathlib.Omega.{arith}
 use borrow.Author.Tests.{eqb-true}
 use lib.ListN.{length, getD, take, drop, length-drop}
 use lib.Seq.{getD-take}
-use Rattle.refusal.specs.Paper.{Paper, refused, refuse_unless_, _>>_}
+use Rattle.refusal.specs.declared.Refusal.{Refusal}
+use Rattle.refusal.specs.Paper.{Paper, answer, refused, refuse_unless_, _>>_, _>>=_}
+use Rattle.refusal.specs.Numbers.{onPaper}
+use Rattle.refusal.proofs.PaperLaws.{passed, same-answer, on-paper}
 use Rattle.division.specs.Words.{_=?_, from, keep}
 use Rattle.division.specs.Table.{isScale, scales, made, table, tableRow}
 use Rattle.division.specs.Given.{IsScale}
 use Rattle.division.proofs.TestLaws.{both}
-use Rattle.division.proofs.TableLaws.{is-scale}
+use Rattle.division.proofs.TableLaws.{scale}
 use Rattle.division.proofs.MemberLaws.{from-has, keep-has}
-use Rattle.label.specs.Label.{markOf, countOf, scaleNamed, wellFormed, numbersIn, sheetNamed, readLabel}
+use Rattle.label.specs.Label.{markOf, countOf, scaleWith, scaleNamed, wellFormed, numbersIn, sheetNamed, readLabel}
 use Rattle.label.specs.Given.{numbersOf, Held, Fields}
 
 -- ---- the scale
@@ -29,11 +32,11 @@ first-in : (l : List ℕ) → (getD l 0 0 ≡ 0 → ⊥) → List·Memᴰ (getD 
 first-in [] n = absurd (n refl)
 first-in (x ∷ l) n = List·Memᴰ·head refl
 
-pub named : (mark count : ℕ) → (scaleNamed mark count ≡ 0 → ⊥) → Named mark count (scaleNamed mark count)
-unfolding scaleNamed
-named mark count n =
+with : (mark count : ℕ) → (scaleWith mark count ≡ 0 → ⊥) → Named mark count (scaleWith mark count)
+unfolding scaleWith
+with mark count n =
     let test : ℕ → Bool = λ s. markOf s =? mark && 1 + countOf (made s) =? count in
-    let s = scaleNamed mark count in
+    let s = scaleWith mark count in
     let k = keep-has test scales (first-in (keep test scales) n) in
     let m = from-has 1 9 (k .0) in
     let b = both (markOf s =? mark) (1 + countOf (made s) =? count) (k .1) in
@@ -43,19 +46,24 @@ named mark count n =
       count = eqb-true (1 + countOf (made s)) count (b .1);
     }
 
+pub named : (mark count s : ℕ) → scaleNamed mark count ≡ answer s → Named mark count s
+named mark count s e =
+    let p = passed 4 (isScale (scaleWith mark count)) _ e in
+    rw (same-answer (p .1)) at (with mark count (λ z. omega (arith, scale (scaleWith mark count) (p .0))))
+
 -- no numbers name no scale
-none-named : scaleNamed 0 0 ≡ 0
-unfolding scaleNamed markOf countOf table tableRow from keep
+none-named : scaleNamed 0 0 ≡ refused 4 0
+unfolding scaleWith markOf countOf table tableRow from keep
 none-named = refl
 
 -- ---- the label
 
-abbrev pub scaleFrom : List ℕ → ℕ
+abbrev pub scaleFrom : List ℕ → Paper ℕ
 scaleFrom vs = scaleNamed (getD vs 0 0) (length vs)
 
 -- a label of these numbers; one that is not well formed has none
 abbrev pub readNumbers : List ℕ → Paper ℕ
-readNumbers vs = (refuse 4 unless isScale (scaleFrom vs)) >> sheetNamed (scaleFrom vs) (drop 1 vs)
+readNumbers vs = scaleFrom vs >>= λ s. sheetNamed s (drop 1 vs)
 
 pub read-numbers : (bytes : List ℕ) → readLabel bytes ≡ readNumbers (numbersOf bytes)
 unfolding readLabel numbersOf
@@ -65,21 +73,21 @@ read-numbers bytes = by (wellFormed bytes)
     by true = refl
     by false = rw none-named
 
-pub read-none : (vs : List ℕ) → scaleFrom vs ≡ 0 → readNumbers vs ≡ refused 4 0
-read-none vs e = rw e
-
 pub read-empty : (vs : List ℕ) → length vs ≡ 0 → readNumbers vs ≡ refused 4 0
-read-empty [] e = read-none [] none-named
+read-empty [] e = rw none-named
 read-empty (v ∷ vs) e = absurd (omega arith)
 
-module _ (vs : List ℕ) (n : scaleFrom vs ≡ 0 → ⊥) where
-  pub fields-named : Fields (scaleFrom vs) (drop 1 vs)
+pub read-none : (vs : List ℕ) (why : Refusal) → scaleFrom vs ≡ onPaper why → readNumbers vs ≡ onPaper why
+read-none vs why e = ap (λ (p : Paper ℕ). p >>= λ s. sheetNamed s (drop 1 vs)) e ∙ rw (on-paper why .is ℕ)
+
+module _ (vs : List ℕ) (s : ℕ) (e : scaleFrom vs ≡ answer s) where
+  pub fields-named : Fields s (drop 1 vs)
   fields-named =
-      let r = named (getD vs 0 0) (length vs) n in
+      let r = named (getD vs 0 0) (length vs) s e in
       record { scale = r .scale; enough = omega (arith, r .count, length-drop 1 vs) }
 
-  pub read-named : readNumbers vs ≡ sheetNamed (scaleFrom vs) (drop 1 vs)
-  read-named = rw (is-scale (named (getD vs 0 0) (length vs) n .scale))
+  pub read-named : readNumbers vs ≡ sheetNamed s (drop 1 vs)
+  read-named = ap (λ (p : Paper ℕ). p >>= λ s. sheetNamed s (drop 1 vs)) e
 
 -- ---- numbers as the code holds them
 

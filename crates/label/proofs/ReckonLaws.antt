@@ -11,7 +11,7 @@ use lib.Seq.{drop-cons, getD-drop}
 use Rattle.refusal.specs.Paper.{Paper, answer, refused, refuse_unless_, _>>_}
 use Rattle.division.specs.Words.{between}
 use Rattle.division.specs.declared.table.Row.{Row}
-use Rattle.division.specs.Table.{Made, ofScale, made, rows, columns, parentScale, parts, sheets, first, codeRow}
+use Rattle.division.specs.Table.{Made, ofScale, made, rows, columns, parentScale, side, sheets, first, codeRow}
 use Rattle.division.specs.Sheet.{indexAt, partIndex}
 use Rattle.division.specs.Given.{IsScale}
 use Rattle.division.proofs.MadeLaws.{Sound, sheetsOf, index<}
@@ -34,7 +34,7 @@ reckon-few m fs {i} s e = by (inRange m fs) refl e
 
 -- of a part of a parent that is reckoned
 abbrev reckonPart : ℕ → ℕ → Reckoned → Reckoned
-reckonPart k number (At up) = cond (between 1 (k * k) number) (At (partIndex k up number)) Out
+reckonPart k number (At up) = cond (between 1 (k * k) number) (At (partIndex (k * k) up number)) Out
 reckonPart k number Out = Out
 
 reckon-part : (z : ℕ) (m : Made) (k : ℕ) (fs : List ℕ) → Sound (ofScale z m k) → reckon (ofScale z m k) fs ≡ reckonPart k (getD fs 0 0) (reckon m (drop 1 fs))
@@ -71,8 +71,8 @@ module _ {s : ℕ} {fs : List ℕ} (h : Fields s fs) (e : parentScale s ≡ 0 �
   pub fields-above : Fields (parentScale s) (drop 1 fs)
   fields-above = record { scale = above (h .scale) e; enough = omega (arith, h .enough, count-deep, length-drop 1 fs) }
 
-  pub reckon-deep : reckon (made s) fs ≡ reckonPart (parts s) (getD fs 0 0) (reckon (made (parentScale s)) (drop 1 fs))
-  reckon-deep = ap (λ (m : Made). reckon m fs) (deep (h .scale) e) ∙ reckon-part (parentScale s) (made (parentScale s)) (parts s) fs (parted (h .scale) e .some, rules (above (h .scale) e) .sound)
+  pub reckon-deep : reckon (made s) fs ≡ reckonPart (side s) (getD fs 0 0) (reckon (made (parentScale s)) (drop 1 fs))
+  reckon-deep = ap (λ (m : Made). reckon m fs) (deep (h .scale) e) ∙ reckon-part (parentScale s) (made (parentScale s)) (side s) fs (parted (h .scale) e .some, rules (above (h .scale) e) .sound)
 
 -- ---- the index, parent by parent
 
@@ -149,10 +149,10 @@ module _ {s : ℕ} {fs : List ℕ} {t : Row} {i index each : ℕ} (c : Reckoning
     pub next-field : i < length fs
     next-field = omega (arith, a-field (c .fields) deep-parent, length-drop i fs)
 
-    pub parts-few : t .parts * t .parts ≤ 625
+    pub parts-few : t .parts ≤ 625
     parts-few = rw (c .row) (square-few (parted (c .fields .scale) deep-parent))
 
-    pub each-small : each * (t .parts * t .parts) ≤ 6_000_000
+    pub each-small : each * t .parts ≤ 6_000_000
     each-small = rw (c .row) (le-trans (each-few (c .fields .scale) deep-parent (sheets s) each (c .all)) (rules (c .scale) .few))
 
     pub higher : codeRow (t .parent) .parent < t .parent
@@ -161,26 +161,26 @@ module _ {s : ℕ} {fs : List ℕ} {t : Row} {i index each : ℕ} (c : Reckoning
     here : drop i fs ≡ getD fs i 0 ∷ drop (i + 1) fs
     here = drop-cons fs i 0 next-field ∙ rw (add-one i)
 
-    rest-here : reckon (made s) fs ≡ reckonBelow index each (reckonPart (parts (c .up)) (getD fs i 0) (reckon (made (parentScale (c .up))) (drop (i + 1) fs)))
+    rest-here : reckon (made s) fs ≡ reckonBelow index each (reckonPart (side (c .up)) (getD fs i 0) (reckon (made (parentScale (c .up))) (drop (i + 1) fs)))
     rest-here =
-        let k = parts (c .up) in
+        let k = side (c .up) in
         let m = made (parentScale (c .up)) in
         let e : reckonPart k (getD (drop i fs) 0 0) (reckon m (drop 1 (drop i fs))) ≡ reckonPart k (getD fs i 0) (reckon m (drop (i + 1) fs)) = rw here in
         c .rest ∙ ap (reckonBelow index each) (reckon-deep (c .fields) deep-parent ∙ e)
 
-    pub reckoning-out : between 1 (t .parts * t .parts) (getD fs i 0) ≡ false → Out ≡ reckon (made s) fs
-    reckoning-out f = sym (rest-here ∙ ap (reckonBelow index each) (part-out (parts (c .up)) (getD fs i 0) (reckon (made (parentScale (c .up))) (drop (i + 1) fs)) (rw (c .row) at f)))
+    pub reckoning-out : between 1 (t .parts) (getD fs i 0) ≡ false → Out ≡ reckon (made s) fs
+    reckoning-out f = sym (rest-here ∙ ap (reckonBelow index each) (part-out (side (c .up)) (getD fs i 0) (reckon (made (parentScale (c .up))) (drop (i + 1) fs)) (rw (c .row) at f)))
 
-    module _ (f : between 1 (t .parts * t .parts) (getD fs i 0) ≡ true) where
-      pub in-range : (1 ≤ getD fs i 0) × (getD fs i 0 ≤ t .parts * t .parts)
+    module _ (f : between 1 (t .parts) (getD fs i 0) ≡ true) where
+      pub in-range : (1 ≤ getD fs i 0) × (getD fs i 0 ≤ t .parts)
       in-range = between-in _ _ _ f
 
-      pub sum-less : index + each * (getD fs i 0 - 1) < each * (t .parts * t .parts)
+      pub sum-less : index + each * (getD fs i 0 - 1) < each * t .parts
       sum-less =
-          let m : each * (getD fs i 0 - 1 + 1) ≤ each * (t .parts * t .parts) = mul-le-mul-left each (omega (arith, in-range)) in
+          let m : each * (getD fs i 0 - 1 + 1) ≤ each * t .parts = mul-le-mul-left each (omega (arith, in-range)) in
           omega (arith, m, mul-add each (getD fs i 0 - 1) 1, c .less)
 
-      pub reckoning-next : (r : Row) → r ≡ codeRow (t .parent) → Reckoning s fs r (i + 1) (index + each * (getD fs i 0 - 1)) (each * (t .parts * t .parts))
+      pub reckoning-next : (r : Row) → r ≡ codeRow (t .parent) → Reckoning s fs r (i + 1) (index + each * (getD fs i 0 - 1)) (each * t .parts)
       reckoning-next r g = record {
         up = parentScale (c .up);
         row = rw (c .row) at g;
@@ -188,7 +188,7 @@ module _ {s : ℕ} {fs : List ℕ} {t : Row} {i index each : ℕ} (c : Reckoning
         fields = rw here at (fields-above (c .fields) deep-parent);
         all = rw (c .row) (sheets-by (c .fields .scale) deep-parent (sheets s) each (c .all));
         less = sum-less;
-        rest = rest-here ∙ rw (c .row) (part-below (parts (c .up)) (getD fs i 0) index each (reckon (made (parentScale (c .up))) (drop (i + 1) fs)) (rw (c .row) at f));
+        rest = rest-here ∙ rw (c .row) (part-below (side (c .up)) (getD fs i 0) index each (reckon (made (parentScale (c .up))) (drop (i + 1) fs)) (rw (c .row) at f));
       }
 
 -- ---- the sheet

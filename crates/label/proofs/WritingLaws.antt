@@ -4,7 +4,7 @@ use mathlib.Core.Bool.{true}
 use mathlib.Core.List.{List, [], _∷_, _++_, flatMap, append-assoc, append-nil}
 use mathlib.Core.Logic.{⊎-elim}
 use Prim.Native.Nat.{ℕ, _+_, _*_, _/_, _%_, _≤_, _<_}
-use native.Mathlib.Nat.{mod-lt, zero-add, add-zero, le-refl}
+use native.Mathlib.Nat.{mul-pos, mod-lt, zero-add, add-zero, le-refl}
 use native.Mathlib.Numerals.{add-one}
 use native.Mathlib.Omega.{arith}
 use borrow.Author.Tests.{le-leb, lt-leb}
@@ -14,7 +14,7 @@ use mir.Val.{boolByte}
 use Rattle.refusal.specs.Paper.{answer, refused, laid, counted, roomAfter}
 use Rattle.division.specs.declared.table.Row.{Row}
 use Rattle.division.specs.Words.{_≤?_}
-use Rattle.division.specs.Table.{Made, made, rows, columns, parentScale, parts, perParent, codeRow}
+use Rattle.division.specs.Table.{Made, made, rows, columns, parentScale, side, parts, codeRow}
 use Rattle.division.specs.Sheet.{placeAt, isSheet, scaleOf, indexOf}
 use Rattle.division.specs.Given.{Parted}
 use Rattle.division.proofs.TestLaws.{le-or-less}
@@ -107,25 +107,25 @@ module _ {t : Text} {s i : ℕ} (x : Room t s i) (e : parentScale s ≡ 0) where
 
 -- of a scale that is made from its parent's
 module _ {t : Text} {s i : ℕ} (x : Room t s i) (e : parentScale s ≡ 0 → ⊥) where
-  deep-fields : indexFields s i ≡ (i % perParent s + 1) ∷ indexFields (parentScale s) (i / perParent s)
+  deep-fields : indexFields s i ≡ (i % parts s + 1) ∷ indexFields (parentScale s) (i / parts s)
   deep-fields =
       ap (λ (m : Made). fieldsOf m (placeAt m i)) (deep (x .indexed .scale) e)
-      ∙ fields-part (parentScale s) (made (parentScale s)) (parts s) i (subst Sound (deep (x .indexed .scale) e) (rules (x .indexed .scale) .sound))
+      ∙ fields-part (parentScale s) (made (parentScale s)) (side s) i (subst Sound (deep (x .indexed .scale) e) (rules (x .indexed .scale) .sound))
 
-  deep-long : length (behind (indexFields s i)) ≡ 1 + length (decimal (i % perParent s + 1)) + length (behind (indexFields (parentScale s) (i / perParent s)))
-  deep-long = ap (λ (fs : List ℕ). length (behind fs)) deep-fields ∙ more-long (i % perParent s + 1) (indexFields (parentScale s) (i / perParent s))
+  deep-long : length (behind (indexFields s i)) ≡ 1 + length (decimal (i % parts s + 1)) + length (behind (indexFields (parentScale s) (i / parts s)))
+  deep-long = ap (λ (fs : List ℕ). length (behind fs)) deep-fields ∙ more-long (i % parts s + 1) (indexFields (parentScale s) (i / parts s))
 
-  pub deep-number : Digits t (45 ∷ decimal (i % perParent s + 1)) (i % perParent s + 1)
+  pub deep-number : Digits t (45 ∷ decimal (i % parts s + 1)) (i % parts s + 1)
   deep-number =
-      let f : perParent s < 1_000 = subst Short (deep (x .indexed .scale) e) (sizes (x .indexed .scale) .short) .0 in
-      record { room = omega (arith, x .room, deep-long); few = omega (arith, left-few (parts s) i (parted (x .indexed .scale) e .some)) }
+      let f : parts s < 1_000 = subst Short (deep (x .indexed .scale) e) (sizes (x .indexed .scale) .short) .0 in
+      record { room = omega (arith, x .room, deep-long); few = omega (arith, left-few (side s) i (parted (x .indexed .scale) e .some)) }
 
-  module _ {u : Text} (p : Appended t u (45 ∷ decimal (i % perParent s + 1))) where
-    pub deep-room : length (u .bytes) ≡ length (t .bytes) → Room u (parentScale s) (i / perParent s)
+  module _ {u : Text} (p : Appended t u (45 ∷ decimal (i % parts s + 1))) where
+    pub deep-room : length (u .bytes) ≡ length (t .bytes) → Room u (parentScale s) (i / parts s)
     deep-room k = record { indexed = parent-indexed (x .indexed .scale) e i (x .indexed); room = omega (arith, x .room, deep-long, p .longer) }
 
-    pub deep-spelt : {r : Text} → Appended u r (behind (indexFields (parentScale s) (i / perParent s))) → Appended t r (behind (indexFields s i))
-    deep-spelt q = rw (deep-fields, behind-more (i % perParent s + 1)) (then p q)
+    pub deep-spelt : {r : Text} → Appended u r (behind (indexFields (parentScale s) (i / parts s))) → Appended t r (behind (indexFields s i))
+    deep-spelt q = rw (deep-fields, behind-more (i % parts s + 1)) (then p q)
 
 -- ---- the loop over the parents
 
@@ -155,19 +155,19 @@ module _ {s i : ℕ} {t : Text} {row : Row} {index : ℕ} {u : Text} (g : Going 
     here-deep : parentScale (g .up) ≡ 0 → ⊥
     here-deep = rw (g .is-row) at e
 
-    pub cut : Parted (row .parts)
-    cut = rw (g .is-row) (parted (g .room .indexed .scale) here-deep)
+    pub some-parts : 0 < row .parts
+    some-parts = let k = parted (g .room .indexed .scale) here-deep in rw (g .is-row) (mul-pos (k .some) (k .some))
 
     pub higher : codeRow (row .parent) .parent < row .parent
     higher = rw (g .is-row) (rules (above (g .room .indexed .scale) here-deep) .above)
 
-    pub number-room : Digits u (45 ∷ decimal (index % (row .parts * row .parts) + 1)) (index % (row .parts * row .parts) + 1)
+    pub number-room : Digits u (45 ∷ decimal (index % row .parts + 1)) (index % row .parts + 1)
     number-room = rw (g .is-row) (deep-number (g .room) here-deep)
 
-    pub going-next : {v : Text} → Appended u v (45 ∷ decimal (index % (row .parts * row .parts) + 1)) → length (v .bytes) ≡ length (u .bytes)
-        → (next : Row) → next ≡ codeRow (row .parent) → Going s i t next (index / (row .parts * row .parts)) v
+    pub going-next : {v : Text} → Appended u v (45 ∷ decimal (index % row .parts + 1)) → length (v .bytes) ≡ length (u .bytes)
+        → (next : Row) → next ≡ codeRow (row .parent) → Going s i t next (index / row .parts) v
     going-next {v} p k next is =
-        let q : Appended u v (45 ∷ decimal (index % perParent (g .up) + 1)) = rw (g .is-row) at p in
+        let q : Appended u v (45 ∷ decimal (index % parts (g .up) + 1)) = rw (g .is-row) at p in
         record {
           up = parentScale (g .up);
           is-row = is ∙ ap (λ (r : Row). codeRow (r .parent)) (g .is-row);

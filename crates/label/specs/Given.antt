@@ -5,10 +5,15 @@ use mathlib.Core.Path.{_≡_}
 use mathlib.Core.Bool.{cond, _&&_}
 use mathlib.Core.List.{List, [], _∷_, _++_, map, flatMap}
 use lib.ListN.{length, take}
+use Rattle.refusal.specs.Paper.{Paper, answer}
+use Rattle.refusal.specs.Numbers.{onPaper}
 use Rattle.division.specs.Words.{between}
 use Rattle.division.specs.Table.{Made, made}
 use Rattle.division.specs.Sheet.{indexAt, placeAt}
 use Rattle.division.specs.Given.{IsScale, Indexed}
+use Rattle.label.specs.declared.reading.Named.{Named}
+use Rattle.label.specs.declared.reading.Named.the-variants as named
+use Rattle.label.specs.declared.reading.Named.the-variants.{Scale}
 use Rattle.label.specs.declared.reading.Reckoned.{Reckoned}
 use Rattle.label.specs.declared.reading.Reckoned.the-variants.{At, Out}
 use Rattle.label.specs.declared.writing.Text.{Text}
@@ -26,6 +31,11 @@ pub record Held (vs values : List ℕ) (count : ℕ) : Type 0 where
 -- the numbers of a label that is well formed, and none of any other
 unfoldable pub numbersOf : List ℕ → List ℕ
 numbersOf bytes = cond (wellFormed bytes) (numbersIn bytes) []
+
+-- the scale that a label names, on paper
+abbrev pub scalePaper : Named → Paper ℕ
+scalePaper (Scale s) = answer s
+scalePaper (named.Refused why) = onPaper why
 
 -- a scale, and at least as many fields as its labels have behind the first number
 pub record Fields (s : ℕ) (fields : List ℕ) : Type 0 where

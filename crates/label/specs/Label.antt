@@ -4,10 +4,10 @@ use Prim.Native.Char.{code}
 use mathlib.Core.Bool.{Bool, true, false, not, _&&_, _||_}
 use mathlib.Core.List.{List, [], _∷_, map}
 use lib.ListN.{length, getD, drop}
-use Rattle.refusal.specs.Paper.{Paper, answer, refuse_unless_, _>>_, laid}
+use Rattle.refusal.specs.Paper.{Paper, answer, refuse_unless_, _>>_, _>>=_, laid}
 use Rattle.division.specs.declared.Place.{Place}
-use Rattle.division.specs.Words.{_=?_, between, keep}
-use Rattle.division.specs.Table.{Made, ofArea, ofScale, isScale, scales, made}
+use Rattle.division.specs.Words.{_=?_, between}
+use Rattle.division.specs.Table.{Made, ofArea, ofScale, isScale, theScale, made}
 use Rattle.division.specs.Sheet.{numberIn, parentPlace, childPlace, isSheet, sheetOf, scaleOf, placeOf}
 use Rattle.label.specs.Text.{every, split, join, value, decimal}
 
@@ -38,9 +38,14 @@ unfoldable pub placeFrom : Made → List ℕ → Place
 placeFrom (ofArea r c) fields = record { row = getD fields 0 0 - 101; column = getD fields 1 0 - 1 }
 placeFrom (ofScale s m k) fields = childPlace k (placeFrom m (drop 1 fields)) (getD fields 0 0)
 
--- "The first number and the count of fields together decide the scale"; 0 for no scale
-unfoldable pub scaleNamed : ℕ → ℕ → ℕ
-scaleNamed mark count = getD (keep (λ s. markOf s =? mark && 1 + countOf (made s) =? count) scales) 0 0
+-- "The first number and the count of fields together decide the scale"
+unfoldable pub scaleWith : ℕ → ℕ → ℕ
+scaleWith mark count = theScale λ s. markOf s =? mark && 1 + countOf (made s) =? count
+
+abbrev pub scaleNamed : ℕ → ℕ → Paper ℕ
+scaleNamed mark count = do
+  refuse 4 unless isScale (scaleWith mark count)
+  answer (scaleWith mark count)
 
 -- "only digits and hyphens"
 abbrev pub isLabelByte : ℕ → Bool
@@ -70,9 +75,8 @@ sheetNamed s fields = do
 unfoldable pub readLabel : List ℕ → Paper ℕ
 readLabel bytes = do
   let numbers = numbersIn bytes
-  let s = scaleNamed (getD numbers 0 0) (length numbers)
   refuse 4 unless wellFormed bytes
-  refuse 4 unless isScale s
+  s ← scaleNamed (getD numbers 0 0) (length numbers)
   sheetNamed s (drop 1 numbers)
 
 -- sheet to label

@@ -9,7 +9,7 @@ ghost use Rattle.division.specs.Words.{between};
 ghost use Rattle.division.specs.Table.{made};
 ghost use Rattle.division.specs.Answers.{sheetPaper};
 ghost use Rattle.label.specs.Label.{scaleNamed, sheetNamed, readLabel};
-ghost use Rattle.label.specs.Given.{numbersOf, Held, reckon, Fields, reckonArea, reckonBelow, Below};
+ghost use Rattle.label.specs.Given.{numbersOf, Held, scalePaper, reckon, Fields, reckonArea, reckonBelow, Below};
 
 fn wide(b: u8) -> u64
     ensures { λ r. ⌜ r ≡ b ⌝ }
@@ -66,45 +66,51 @@ fn numbers_in(bytes: &[u8], values: &mut [u64]) -> usize
     n + 1
 }
 
-// The scale that a first number and a count of fields name, 0 for none.
-fn scale_named(mark: u64, count: usize) -> u32
-    ensures { λ r. ⌜ r ≡ scaleNamed mark count ⌝ }
+// The scale that a label names, or the refusal where it names none.
+pub enum Named {
+    Scale(u32),
+    Refused(Refusal),
+}
+
+// The first number and the count of fields together decide the scale.
+fn scale_named(mark: u64, count: usize) -> Named
+    ensures { λ r. ⌜ scalePaper r ≡ scaleNamed mark count ⌝ }
 {
     match mark {
         250 => match count {
-            3 => 1,
-            _ => 0,
+            3 => Named::Scale(1),
+            _ => Named::Refused(Refusal::LabelForm),
         },
         100 => match count {
-            3 => 2,
-            _ => 0,
+            3 => Named::Scale(2),
+            _ => Named::Refused(Refusal::LabelForm),
         },
         50 => match count {
-            3 => 3,
-            _ => 0,
+            3 => Named::Scale(3),
+            _ => Named::Refused(Refusal::LabelForm),
         },
         25 => match count {
-            4 => 4,
-            _ => 0,
+            4 => Named::Scale(4),
+            _ => Named::Refused(Refusal::LabelForm),
         },
         10 => match count {
-            4 => 5,
-            _ => 0,
+            4 => Named::Scale(5),
+            _ => Named::Refused(Refusal::LabelForm),
         },
         5 => match count {
-            5 => 6,
-            6 => 9,
-            _ => 0,
+            5 => Named::Scale(6),
+            6 => Named::Scale(9),
+            _ => Named::Refused(Refusal::LabelForm),
         },
         2 => match count {
-            4 => 7,
-            _ => 0,
+            4 => Named::Scale(7),
+            _ => Named::Refused(Refusal::LabelForm),
         },
         1 => match count {
-            5 => 8,
-            _ => 0,
+            5 => Named::Scale(8),
+            _ => Named::Refused(Refusal::LabelForm),
         },
-        _ => 0,
+        _ => Named::Refused(Refusal::LabelForm),
     }
 }
 
@@ -133,7 +139,7 @@ fn index_from(s: u32, fields: &[u64]) -> Reckoned
     let mut each: u32 = 1;
     while t.parent != 0 {
         let number = fields[i];
-        let parts = t.parts * t.parts;
+        let parts = t.parts;
         if !is_part(parts, number) {
             return Reckoned::Out;
         }
@@ -192,11 +198,11 @@ pub fn read_label(bytes: &[u8]) -> Found
     if count == 0 {
         return Found::Refused(Refusal::LabelForm);
     }
-    let s = scale_named(values[0], count);
-    if s == 0 {
-        return Found::Refused(Refusal::LabelForm);
+    let first = values[0];
+    match scale_named(first, count) {
+        Named::Refused(why) => Found::Refused(why),
+        Named::Scale(s) => sheet_from(s, &values[1..count]),
     }
-    sheet_from(s, &values[1..count])
 }
 
 // The sheet of a scale that fields name.
@@ -206,6 +212,6 @@ fn sheet_from(s: u32, fields: &[u64]) -> Found
 {
     match index_from(s, fields) {
         Reckoned::Out => Found::Refused(Refusal::FieldRange),
-        Reckoned::At(i) => Found::Sheet(Scale(s).row().first + i),
+        Reckoned::At(i) => Found::Sheet(Scale(s).first() + i),
     }
 }

@@ -75,7 +75,7 @@ fn put_fields(s: u32, i: u32, out: &mut [u8], at: usize) -> usize
     let mut index = i;
     let mut a = at;
     while t.parent != 0 {
-        let each = t.parts * t.parts;
+        let each = t.parts;
         a = put_field(index % each + 1, out, a);
         index = index / each;
         t = Scale(t.parent).row();
@@ -107,7 +107,7 @@ fn text_of(sheet: u32) -> Text
     ensures { λ r. ⌜ Spelt r (labelOf sheet) ⌝ }
 {
     let s = Scale::of(sheet).0;
-    let first = Scale(s).row().first;
+    let first = Scale(s).first();
     let mut bytes = [0u8; 16];
     let a = put_number(mark_of(s), &mut bytes, 0);
     let len = put_fields(s, sheet - first, &mut bytes, a);

@@ -45,7 +45,7 @@ none-is-no-sheet = refl
 
 -- a label begins at the line's start, so where it ends tells its part
 pub label-heard : (line : List ℕ) → labelPart line ≡ part 0 (labelPart line .end)
-label-heard line = rw (label-first line)
+label-heard line = label-first line
 
 -- what a caller makes of a source, a start and an end
 abbrev pub captionHeard : ℕ → ℕ → ℕ → Caption

@@ -2,7 +2,7 @@
 use division::table::Scale;
 ghost use mathlib.Core.Path.{_≡_};
 ghost use Rattle.division.specs.Table.{width, height, rows, columns, first, last};
-ghost use Rattle.division.specs.Sheet.{scaleIn};
+ghost use Rattle.division.specs.Sheet.{scaleOf};
 
 #[no_mangle]
 pub extern "C" fn qubathimi_width(scale: u32) -> u32
@@ -48,7 +48,7 @@ pub extern "C" fn qubathimi_last(scale: u32) -> u32
 
 #[no_mangle]
 pub extern "C" fn qubathimi_scale_of(sheet: u32) -> u32
-    ensures { λ r. ⌜ r ≡ scaleIn sheet ⌝ }
+    ensures { λ r. ⌜ r ≡ scaleOf sheet ⌝ }
 {
     Scale::of(sheet).0
 }

@@ -1,18 +1,19 @@
 -- Answers and cascades on paper: a line that refuses decides, and no two answers are the same on paper. Assumes nothing.
 use mathlib.Core.Path.{_≡_, refl, sym, ap, _∙_}
 use mathlib.Core.Bool.{Bool, true, false, not}
-use mathlib.Core.List.{[], _∷_}
-use Prim.Native.Nat.{ℕ, _-_}
+use mathlib.Core.List.{List, [], _∷_}
+use Prim.Native.Nat.{ℕ, _-_, _≤_}
 use native.Mathlib.Omega.{arith}
-use borrow.Author.Tests.{not-true, not-false}
-use lib.Dec.{eqb}
-use lib.ListN.{getD}
+use borrow.Author.Tests.{not-true, not-false, le-leb, leb-true}
+use lib.Dec.{leb, eqb}
+use lib.ListN.{length, getD}
 use Rattle.refusal.specs.declared.Refusal.{Refusal}
 use Rattle.refusal.specs.declared.Refusal.the-variants.{PointOutside, NoScale, NoSheet, LabelForm, FieldRange, NoSuch, WindowOrder, WindowOutside, TooMany, Room, EndsEarly, BadNumber, PastLast, MoreBytes, NotRising, NameForm, NameScale}
+use Rattle.refusal.specs.declared.Numbered.{Numbered}
 use Rattle.refusal.specs.declared.Laid.{Laid}
 use Rattle.refusal.specs.declared.Laid.the-variants.{Items, Refused}
-use Rattle.refusal.specs.Paper.{Paper, answer, refused, isAnswer, refuse_unless_, _>>_}
-use Rattle.refusal.specs.Numbers.{onPaper, laidPaper}
+use Rattle.refusal.specs.Paper.{Paper, answer, refused, isAnswer, refuse_at_unless_, refuse_unless_, _>>_, _>>=_, roomFor, laid, counted, roomAfter}
+use Rattle.refusal.specs.Numbers.{onPaper, carries, IsNumbered, laidPaper}
 
 -- ---- a line of a cascade, by the code's flag for its test: `if !flag { return .. }`
 
@@ -26,6 +27,11 @@ holds {flag} e f = sym e ∙ not-false flag f
 pub passed : {A : Type 0} (n : ℕ) (test : Bool) (next : Paper A) {a : A} → ((refuse n unless test) >> next) ≡ answer a → (test ≡ true) × (next ≡ answer a)
 passed n true next e = (refl, e)
 passed n false next e = let z : _≡_ {A = ℕ} 0 1 = cc in absurd (omega arith)
+
+-- and each question on the way had its answer
+pub found : {A B : Type 0} (p : Paper A) (next : A → Paper B) {b : B} → (p >>= next) ≡ answer b → (a : A) × (p ≡ answer a) × (next a ≡ answer b)
+found (answer a) next e = (a, refl, e)
+found (refused number value) next e = let z : _≡_ {A = ℕ} 0 1 = cc in absurd (omega arith)
 
 pub same-answer : {A : Type 0} {a b : A} → answer a ≡ answer b → a ≡ b
 same-answer e = cc
@@ -68,31 +74,48 @@ no-answer A why = as-read (onPaper why) ∙ read-refusal (λ (x : A). true) (λ 
     as-read (answer x) = refl
     as-read (refused n v) = refl
 
--- a refusal has one number, which is not 0, and one value, whatever was asked
+-- a refusal has one number, which is not 0, and one value, whatever was asked; where it carries none, the value is 0
 pub record OnPaper (why : Refusal) : Type 1 where
   pub number : ℕ
   pub some : eqb number 0 ≡ false
   pub value : ℕ
+  pub bare : carries number ≡ false → value ≡ 0
   pub is : (A : Type 0) → onPaper {A = A} why ≡ refused number value
 
 pub on-paper : (why : Refusal) → OnPaper why
-on-paper PointOutside = record { number = 1; some = refl; value = 0; is = λ A. refl }
-on-paper NoScale = record { number = 2; some = refl; value = 0; is = λ A. refl }
-on-paper NoSheet = record { number = 3; some = refl; value = 0; is = λ A. refl }
-on-paper LabelForm = record { number = 4; some = refl; value = 0; is = λ A. refl }
-on-paper FieldRange = record { number = 5; some = refl; value = 0; is = λ A. refl }
-on-paper NoSuch = record { number = 6; some = refl; value = 0; is = λ A. refl }
-on-paper WindowOrder = record { number = 7; some = refl; value = 0; is = λ A. refl }
-on-paper WindowOutside = record { number = 8; some = refl; value = 0; is = λ A. refl }
-on-paper TooMany = record { number = 9; some = refl; value = 0; is = λ A. refl }
-on-paper (Room needed) = record { number = 10; some = refl; value = needed; is = λ A. refl }
-on-paper EndsEarly = record { number = 11; some = refl; value = 0; is = λ A. refl }
-on-paper BadNumber = record { number = 12; some = refl; value = 0; is = λ A. refl }
-on-paper PastLast = record { number = 13; some = refl; value = 0; is = λ A. refl }
-on-paper MoreBytes = record { number = 14; some = refl; value = 0; is = λ A. refl }
-on-paper NotRising = record { number = 15; some = refl; value = 0; is = λ A. refl }
-on-paper NameForm = record { number = 16; some = refl; value = 0; is = λ A. refl }
-on-paper NameScale = record { number = 17; some = refl; value = 0; is = λ A. refl }
+on-paper PointOutside = record { number = 1; some = refl; value = 0; bare = λ e. refl; is = λ A. refl }
+on-paper NoScale = record { number = 2; some = refl; value = 0; bare = λ e. refl; is = λ A. refl }
+on-paper NoSheet = record { number = 3; some = refl; value = 0; bare = λ e. refl; is = λ A. refl }
+on-paper LabelForm = record { number = 4; some = refl; value = 0; bare = λ e. refl; is = λ A. refl }
+on-paper FieldRange = record { number = 5; some = refl; value = 0; bare = λ e. refl; is = λ A. refl }
+on-paper NoSuch = record { number = 6; some = refl; value = 0; bare = λ e. refl; is = λ A. refl }
+on-paper WindowOrder = record { number = 7; some = refl; value = 0; bare = λ e. refl; is = λ A. refl }
+on-paper WindowOutside = record { number = 8; some = refl; value = 0; bare = λ e. refl; is = λ A. refl }
+on-paper TooMany = record { number = 9; some = refl; value = 0; bare = λ e. refl; is = λ A. refl }
+on-paper (Room needed) = record { number = 10; some = refl; value = needed; bare = λ e. let z : _≡_ {A = ℕ} 0 1 = cc in absurd (omega arith); is = λ A. refl }
+on-paper EndsEarly = record { number = 11; some = refl; value = 0; bare = λ e. refl; is = λ A. refl }
+on-paper BadNumber = record { number = 12; some = refl; value = 0; bare = λ e. refl; is = λ A. refl }
+on-paper PastLast = record { number = 13; some = refl; value = 0; bare = λ e. refl; is = λ A. refl }
+on-paper MoreBytes = record { number = 14; some = refl; value = 0; bare = λ e. refl; is = λ A. refl }
+on-paper NotRising = record { number = 15; some = refl; value = 0; bare = λ e. refl; is = λ A. refl }
+on-paper NameForm = record { number = 16; some = refl; value = 0; bare = λ e. refl; is = λ A. refl }
+on-paper NameScale = record { number = 17; some = refl; value = 0; bare = λ e. refl; is = λ A. refl }
+
+-- and there is one telling of it in numbers
+pub one-numbering : {why : Refusal} {a b : Numbered} → IsNumbered why a → IsNumbered why b → a ≡ b
+one-numbering {why} {a} {b} x y = λ i. (number i, value i, flag i)
+  where
+    same : _≡_ {A = Paper ℕ} (refused (a .0) (a .1)) (refused (b .0) (b .1))
+    same = x .told ∙ sym (y .told)
+
+    number : a .0 ≡ b .0
+    number = cc
+
+    value : a .1 ≡ b .1
+    value = cc
+
+    flag : a .2 ≡ b .2
+    flag = x .carried ∙ ap carries number ∙ sym (y .carried)
 
 -- a kind of answer that the paper gives back
 pub record Told {A X : Type 0} (paper : A → Paper X) : Type 0 where
@@ -109,3 +132,53 @@ laid-told = record { back = read Items Refused; again = again }
     again : (a : Laid) → read Items Refused (laidPaper a) ≡ a
     again (Items n) = refl
     again (Refused why) = read-refusal Items Refused why
+
+-- ---- what is answered has passed every line in front of it, and a line that refuses decides
+
+-- an answer is no refusal, and two refusals that are the same have the same number and value
+pub differs : {A : Type 0} {a : A} {n v : ℕ} → answer a ≡ refused n v → ⊥
+differs e = let z : _≡_ {A = ℕ} 0 1 = cc in omega arith
+
+pub same-number : {A : Type 0} {m n v w : ℕ} → _≡_ {A = Paper A} (refused m v) (refused n w) → m ≡ n
+same-number e = cc
+
+pub same-value : {A : Type 0} {m n v w : ℕ} → _≡_ {A = Paper A} (refused m v) (refused n w) → v ≡ w
+same-value e = cc
+
+-- a test alone, and the test for room
+pub passed-test : (n : ℕ) (test : Bool) {u : Unit} → (refuse n unless test) ≡ answer u → test ≡ true
+passed-test n true e = refl
+passed-test n false e = absurd (differs (sym e))
+
+pub passed-room : (needed room : ℕ) {u : Unit} → roomFor needed room ≡ answer u → needed ≤ room
+passed-room needed room e = leb-true needed room (by (leb needed room) e)
+  where
+    by : (test : Bool) {u : Unit {0}} → (refuse 10 at needed unless test) ≡ answer u → test ≡ true
+    by true e = refl
+    by false e = absurd (differs (sym e))
+
+-- any judge, and what comes after it
+pub passed-judge : {A : Type 0} (p : Paper Unit) (next : Paper A) {a : A} → (p >> next) ≡ answer a → (p ≡ answer tt) × (next ≡ answer a)
+passed-judge (answer fine) next e = (refl, e)
+passed-judge (refused n v) next e = absurd (differs (sym e))
+
+pub judge-refuses : {A : Type 0} {p : Paper Unit} (why : Refusal) (next : Paper A) → p ≡ onPaper why → (p >> next) ≡ onPaper why
+judge-refuses {A} why next e = rw (e, on-paper why .is A, on-paper why .is Unit)
+
+-- items that are laid: all of them, where there is room
+pub laid-fits : (items : List ℕ) {room : ℕ} → length items ≤ room → laid items room ≡ answer items
+laid-fits items {room} h = rw (le-leb (length items) room h)
+
+pub laid-answered : (items : List ℕ) (room : ℕ) {xs : List ℕ} → laid items room ≡ answer xs → (items ≡ xs) × (length items ≤ room)
+laid-answered items room e = let p = passed-judge (roomFor (length items) room) (answer items) e in (same-answer (p .1), passed-room (length items) room (p .0))
+
+-- a judge that refuses in front of an answer refuses in front of anything
+pub refuses-so : {A B : Type 0} (p : Paper Unit) (a : A) (next : Paper B) (why : Refusal) → (p >> answer a) ≡ onPaper why → (p >> next) ≡ onPaper why
+refuses-so {A} {B} (answer fine) a next why e = absurd (differs (e ∙ on-paper why .is A))
+refuses-so {A} {B} (refused n v) a next why e =
+    let f : _≡_ {A = Paper A} (refused n v) (refused (on-paper why .number) (on-paper why .value)) = e ∙ on-paper why .is A in
+    rw (on-paper why .is B, same-number f, same-value f)
+
+-- a refusal is told as it is, and leaves the room
+pub told-refused : (why : Refusal) (room : List ℕ) → (onPaper why ≡ counted (onPaper why)) × (room ≡ roomAfter (onPaper why) room)
+told-refused why room = rw (on-paper why .is ℕ, on-paper why .is (List ℕ)) (refl, refl)

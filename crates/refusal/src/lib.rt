@@ -1,8 +1,5 @@
 // The refusals of document 01, "Numbers of refusal". Every question of the box gets its answer or one of these seventeen.
-ghost use mathlib.Core.Path.{_≡_};
-ghost use Prim.Native.Nat.{ℕ};
-ghost use Rattle.refusal.specs.Paper.{refused};
-ghost use Rattle.refusal.specs.Numbers.{onPaper};
+ghost use Rattle.refusal.specs.Numbers.{IsNumbered};
 
 // Why there is no answer, in the order of the paper's numbers 1 to 17.
 pub enum Refusal {
@@ -32,31 +29,31 @@ pub enum Laid {
     Refused(Refusal),
 }
 
-// A refusal as the paper tells it: its number, and the value that it carries, 0 where it carries none.
-pub struct Numbered(pub u32, pub usize);
+// A refusal as the paper tells it: its number, the value that it carries, 0 where it carries none, and whether it carries one.
+pub struct Numbered(pub u32, pub usize, pub bool);
 
 impl Refusal {
     pub fn numbered(self) -> Numbered
-        ensures { λ r. ⌜ refused (r .0) (r .1) ≡ onPaper {A = ℕ} self ⌝ }
+        ensures { λ r. ⌜ IsNumbered self r ⌝ }
     {
         match self {
-            Refusal::PointOutside => Numbered(1, 0),
-            Refusal::NoScale => Numbered(2, 0),
-            Refusal::NoSheet => Numbered(3, 0),
-            Refusal::LabelForm => Numbered(4, 0),
-            Refusal::FieldRange => Numbered(5, 0),
-            Refusal::NoSuch => Numbered(6, 0),
-            Refusal::WindowOrder => Numbered(7, 0),
-            Refusal::WindowOutside => Numbered(8, 0),
-            Refusal::TooMany => Numbered(9, 0),
-            Refusal::Room(needed) => Numbered(10, needed),
-            Refusal::EndsEarly => Numbered(11, 0),
-            Refusal::BadNumber => Numbered(12, 0),
-            Refusal::PastLast => Numbered(13, 0),
-            Refusal::MoreBytes => Numbered(14, 0),
-            Refusal::NotRising => Numbered(15, 0),
-            Refusal::NameForm => Numbered(16, 0),
-            Refusal::NameScale => Numbered(17, 0),
+            Refusal::PointOutside => Numbered(1, 0, false),
+            Refusal::NoScale => Numbered(2, 0, false),
+            Refusal::NoSheet => Numbered(3, 0, false),
+            Refusal::LabelForm => Numbered(4, 0, false),
+            Refusal::FieldRange => Numbered(5, 0, false),
+            Refusal::NoSuch => Numbered(6, 0, false),
+            Refusal::WindowOrder => Numbered(7, 0, false),
+            Refusal::WindowOutside => Numbered(8, 0, false),
+            Refusal::TooMany => Numbered(9, 0, false),
+            Refusal::Room(needed) => Numbered(10, needed, true),
+            Refusal::EndsEarly => Numbered(11, 0, false),
+            Refusal::BadNumber => Numbered(12, 0, false),
+            Refusal::PastLast => Numbered(13, 0, false),
+            Refusal::MoreBytes => Numbered(14, 0, false),
+            Refusal::NotRising => Numbered(15, 0, false),
+            Refusal::NameForm => Numbered(16, 0, false),
+            Refusal::NameScale => Numbered(17, 0, false),
         }
     }
 }

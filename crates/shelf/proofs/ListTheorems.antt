@@ -11,7 +11,7 @@ use lib.ListN.{length, getD, take, drop, length-append}
 use lib.Seq.{drop-cons, take-append-le, take-append-add}
 use Rattle.refusal.specs.Paper.{answer, refused, refuse_unless_, roomFor}
 use Rattle.refusal.specs.declared.Refusal.the-variants.{EndsEarly}
-use Rattle.refusal.proofs.PaperLaws.{passed, Told, read, read-refusal, coincide}
+use Rattle.refusal.proofs.PaperLaws.{passed, passed-test, passed-room, Told, read, read-refusal, coincide}
 use Rattle.division.specs.Words.{_≤?_, _=?_, from}
 use Rattle.division.specs.Sheet.{isSheet}
 use Rattle.division.proofs.TestLaws.{le-or-less}
@@ -24,7 +24,7 @@ use Rattle.shelf.specs.declared.reading.Ended.the-variants.{Whole, Refus
 use Rattle.shelf.specs.declared.reading.Read.{Read}
 use Rattle.shelf.proofs.NumberLaws.{length-number}
 use Rattle.shelf.proofs.WritingLaws.{entryBytes, length-list, Rising, rising}
-use Rattle.shelf.proofs.ReadingLaws.{went-on, passed-test, passed-room, entries-refused, entries-whole, entries-place, count-refused, count-read}
+use Rattle.shelf.proofs.ReadingLaws.{went-on, entries-refused, entries-whole, entries-place, count-refused, count-read}
 use Rattle.shelf.proofs.NumberTheorems.{Bytes, bytes-behind, number-reads, number-cut, number-only}
 
 -- a set is few sheets that rise

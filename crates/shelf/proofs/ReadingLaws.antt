@@ -38,18 +38,6 @@ pub went-on : {A : Type 0} (p : Paper A) (next : A → Reading) → (p thenRead 
 went-on (answer a) next e = record { got = a; is = refl; on = refl }
 went-on (refused n v) next e = let z : _≡_ {A = ℕ} 0 1 = cc in absurd (omega arith)
 
--- what has passed a test
-pub passed-test : (n : ℕ) (test : Bool) {u : Unit} → (refuse n unless test) ≡ answer u → test ≡ true
-passed-test n true e = refl
-passed-test n false e = let z : _≡_ {A = ℕ} 0 1 = cc in absurd (omega arith)
-
-pub passed-room : (needed room : ℕ) {u : Unit} → roomFor needed room ≡ answer u → needed ≤ room
-passed-room needed room e = leb-true needed room (by (leb needed room) e)
-  where
-    by : (test : Bool) {u : Unit {0}} → cond test (answer tt) (refused 10 needed) ≡ answer u → test ≡ true
-    by true e = refl
-    by false e = let z : _≡_ {A = ℕ} 0 1 = cc in absurd (omega arith)
-
 -- ---- entries from a place on
 
 module _ (bytes : List ℕ) (least : ℕ) where

@@ -4,7 +4,7 @@ use mathlib.Core.Bool.{true, false}
 use borrow.Author.Needs.{needs}
 use Rattle.refusal.proofs.PaperLaws.{fails, holds}
 use Rattle.division.specs.Words.{_≤?_}
-use Rattle.catalogue.specs.Given.{withName}
+use Rattle.catalogue.specs.Line.{withName}
 use Rattle.catalogue.proofs.line.with_name.Statement.{statement}
 use Rattle.catalogue.proofs.line.with_name.Tie as tie
 

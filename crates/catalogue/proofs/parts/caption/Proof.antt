@@ -5,8 +5,7 @@ use native.Mathlib.Omega.{arith}
 use borrow.Author.Needs.{needs}
 use lib.ListN.{length}
 use lib.Seq.{take-all}
-use Rattle.catalogue.specs.Parts.{caption}
-use Rattle.catalogue.proofs.PartLaws.{name-lies}
+use Rattle.catalogue.proofs.PartLaws.{name-lies, caption-bare, caption-named}
 use Rattle.catalogue.proofs.parts.caption.Statement.{statement}
 use Rattle.catalogue.proofs.parts.caption.Tie as tie
 
@@ -14,10 +13,10 @@ spans-of-requires : tie.Need-spans-of-requires
 spans-of-requires c κs = search needs
 
 returns : tie.Need-returns
-unfolding caption
 returns c =
-    let f = c .before .before .before .before .args .fallback .now in
-    rw (rw (c .before .spans-of .ensures) at (c .if1 .taken)) (record { bytes = sym (take-all (length f - 0) f (omega arith)); block = refl; place = omega arith })
+    let a = c .before .before .before .before .args in
+    let f = a .fallback .now in
+    rw (caption-bare (a .line .now) f (rw (c .before .spans-of .ensures) at (c .if1 .taken))) (record { bytes = sym (take-all (length f - 0) f (omega arith)); block = refl; place = omega arith })
 
 sub-result : tie.Need-sub-result
 sub-result c = rw (c .before .spans-of .ensures) (name-lies (c .before .before .before .before .args .line .now) .ordered)
@@ -29,10 +28,10 @@ part-result-end : tie.Need-part-result-end
 part-result-end c = rw (c .before .spans-of .ensures) (name-lies (c .before .before .before .before .args .line .now) .inside)
 
 returns-2 : tie.Need-returns-2
-unfolding caption
 returns-2 c =
     let d = c .before .before in
-    rw (rw (d .spans-of .ensures) at (c .before .if1 .left), d .spans-of .ensures) (record { bytes = refl; block = refl; place = omega arith })
+    let a = d .before .before .before .args in
+    rw (caption-named (a .line .now) (a .fallback .now) (rw (d .spans-of .ensures) at (c .before .if1 .left)), d .spans-of .ensures) (record { bytes = refl; block = refl; place = omega arith })
 
 pub caption-spec : {M : Type 1} → statement M
 caption-spec =

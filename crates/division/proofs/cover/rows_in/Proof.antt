@@ -1,15 +1,16 @@
 -- A window in the area is a stretch from the area's north edge on, and the rows that share a point with it are its span. Assumes nothing.
-use mathlib.Core.Path.{_≡_}
+use mathlib.Core.Path.{_≡_, sym}
 use borrow.Author.Needs.{needs}
 use mir.Syntax.{w64}
 use mir.Val.{toZ, ofZ}
 use Rattle.division.proofs.TestLaws.{returned}
+use Rattle.division.proofs.SpanLaws.{span-is}
 use Rattle.division.proofs.WindowLaws.{north-rises, south-rises, down, rows-run}
 use Rattle.division.proofs.cover.rows_in.Statement.{statement}
 use Rattle.division.proofs.cover.rows_in.Tie as tie
 
-row-requires : tie.Need-row-requires
-row-requires c κs = search needs
+height-requires : tie.Need-height-requires
+height-requires c κs = search needs
 
 millimetres-requires : tie.Need-millimetres-requires
 millimetres-requires c κs = search needs
@@ -31,21 +32,21 @@ span-of-requires : tie.Need-span-of-requires
 span-of-requires c κs =
     let d = c .before .before in
     let t = d .before in
-    rw (d .distance .ensures, c .distance2 .ensures, north t, south t, t .before .millimetres .ensures, t .before .before .row .ensures)
+    rw (d .distance .ensures, c .distance2 .ensures, north t, south t, t .before .millimetres .ensures, t .before .before .height .ensures)
     (down (t .before .before .before .pre))
 
 returns : tie.Need-returns
 returns c =
     let d = c .before .before .before in
     let t = d .before in
-    rw (c .span-of .ensures, d .distance .ensures, c .before .distance2 .ensures, north t, south t, t .before .millimetres .ensures, t .before .before .row .ensures)
-    (rows-run (t .before .before .before .pre))
+    rw (c .span-of .ensures, d .distance .ensures, c .before .distance2 .ensures, north t, south t, t .before .millimetres .ensures, t .before .before .height .ensures)
+    (sym (span-is (rows-run (t .before .before .before .pre))))
 
 pub rows-in-spec : {M : Type 1} → statement M
 rows-in-spec =
     tie.close
     (tie.spec
-    row-requires
+    height-requires
     millimetres-requires
     distance-requires
     distance-requires-2

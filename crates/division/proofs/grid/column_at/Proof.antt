@@ -10,8 +10,8 @@ use Rattle.division.proofs.GridLaws.{some-width, east, column-in}
 use Rattle.division.proofs.grid.column_at.Statement.{statement}
 use Rattle.division.proofs.grid.column_at.Tie as tie
 
-row-requires : tie.Need-row-requires
-row-requires c κs = search needs
+width-requires : tie.Need-width-requires
+width-requires c κs = search needs
 
 millimetres-requires : tie.Need-millimetres-requires
 millimetres-requires c κs = search needs
@@ -20,7 +20,7 @@ distance-requires : tie.Need-distance-requires
 distance-requires c κs = search needs
 
 size : (c : tie.After-millimetres) → c .millimetres .result ≡ millimetres (width (c .before .before .args .s))
-size c = rw (c .before .row .ensures) at (c .millimetres .ensures)
+size c = rw (c .before .width .ensures) at (c .millimetres .ensures)
 
 div-result : tie.Need-div-result
 div-result c = rw (size (c .before)) (some-width (c .before .before .before .pre .scale))
@@ -36,4 +36,4 @@ cast-result c =
 pub column-at-spec : {M : Type 1} → statement M
 column-at-spec =
     tie.close
-    (tie.spec row-requires millimetres-requires distance-requires div-result cast-result returns)
+    (tie.spec width-requires millimetres-requires distance-requires div-result cast-result returns)

@@ -10,15 +10,15 @@ use Rattle.division.proofs.GridLaws.{high-in, north-is}
 use Rattle.division.proofs.grid.north_of.Statement.{statement}
 use Rattle.division.proofs.grid.north_of.Tie as tie
 
-row-requires : tie.Need-row-requires
-row-requires c κs = search needs
+height-requires : tie.Need-height-requires
+height-requires c κs = search needs
 
 millimetres-requires : tie.Need-millimetres-requires
 millimetres-requires c κs = search needs
 
 -- the height in millimetres, and how far a row's edge is from the area's
 size : (c : tie.After-millimetres) → c .millimetres .result ≡ millimetres (height (c .before .before .args .s))
-size c = rw (c .before .row .ensures) at (c .millimetres .ensures)
+size c = rw (c .before .height .ensures) at (c .millimetres .ensures)
 
 near : (c : tie.After-millimetres) → c .before .before .args .row * c .millimetres .result ≤ 600_000_000
 near c = let e = c .before .before .pre in rw (size c) (high-in (e .scale) (c .before .before .args .row) (e .in-rows))
@@ -41,4 +41,4 @@ returns c =
 
 pub north-of-spec : {M : Type 1} → statement M
 north-of-spec =
-    tie.close (tie.spec row-requires millimetres-requires cast-y mul-y sub-y cast-result returns)
+    tie.close (tie.spec height-requires millimetres-requires cast-y mul-y sub-y cast-result returns)

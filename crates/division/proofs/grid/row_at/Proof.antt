@@ -10,8 +10,8 @@ use Rattle.division.proofs.GridLaws.{some-height, north, row-in}
 use Rattle.division.proofs.grid.row_at.Statement.{statement}
 use Rattle.division.proofs.grid.row_at.Tie as tie
 
-row-requires : tie.Need-row-requires
-row-requires c κs = search needs
+height-requires : tie.Need-height-requires
+height-requires c κs = search needs
 
 millimetres-requires : tie.Need-millimetres-requires
 millimetres-requires c κs = search needs
@@ -22,7 +22,7 @@ distance-requires c κs =
     rw (back (a .fits .n)) (record { plain = below-pos 4_570_000_000 (a .args .n) (a .pre .south); rises = a .pre .north })
 
 size : (c : tie.After-millimetres) → c .millimetres .result ≡ millimetres (height (c .before .before .args .s))
-size c = rw (c .before .row .ensures) at (c .millimetres .ensures)
+size c = rw (c .before .height .ensures) at (c .millimetres .ensures)
 
 div-result : tie.Need-div-result
 div-result c = rw (size (c .before)) (some-height (c .before .before .before .pre .scale))
@@ -38,4 +38,4 @@ cast-result c =
 pub row-at-spec : {M : Type 1} → statement M
 row-at-spec =
     tie.close
-    (tie.spec row-requires millimetres-requires distance-requires div-result cast-result returns)
+    (tie.spec height-requires millimetres-requires distance-requires div-result cast-result returns)

@@ -10,15 +10,15 @@ use Rattle.division.proofs.GridLaws.{wide-in}
 use Rattle.division.proofs.grid.west_of.Statement.{statement}
 use Rattle.division.proofs.grid.west_of.Tie as tie
 
-row-requires : tie.Need-row-requires
-row-requires c κs = search needs
+width-requires : tie.Need-width-requires
+width-requires c κs = search needs
 
 millimetres-requires : tie.Need-millimetres-requires
 millimetres-requires c κs = search needs
 
 -- the width in millimetres, and how far a column's edge is from the area's
 size : (c : tie.After-millimetres) → c .millimetres .result ≡ millimetres (width (c .before .before .args .s))
-size c = rw (c .before .row .ensures) at (c .millimetres .ensures)
+size c = rw (c .before .width .ensures) at (c .millimetres .ensures)
 
 near : (c : tie.After-millimetres) → c .before .before .args .column * c .millimetres .result ≤ 600_000_000
 near c = let e = c .before .before .pre in rw (size c) (wide-in (e .scale) (c .before .before .args .column) (e .in-columns))
@@ -41,4 +41,4 @@ returns c =
 
 pub west-of-spec : {M : Type 1} → statement M
 west-of-spec =
-    tie.close (tie.spec row-requires millimetres-requires cast-x mul-x add-x cast-result returns)
+    tie.close (tie.spec width-requires millimetres-requires cast-x mul-x add-x cast-result returns)

@@ -44,7 +44,7 @@ unfolding child
 returns-2 c = rw (sheet (c .before .before), fails (c .before .is-scale .ensures) (c .if2 .taken))
 
 scale-of-requires : tie.Need-scale-of-requires
-scale-of-requires c κs = search needs
+scale-of-requires c κs = sheet (c .before .before)
 
 is-part-requires : tie.Need-is-part-requires
 is-part-requires c κs = search needs
@@ -58,34 +58,34 @@ returns-3 c =
 row-requires : tie.Need-row-requires
 row-requires c κs = search needs
 
-row-requires-2 : tie.Need-row-requires-2
-row-requires-2 c κs = search needs
+first-requires : tie.Need-first-requires
+first-requires c κs = search needs
 
 sub-index : tie.Need-sub-index
 sub-index c =
-    let p = c .before .before .before in
+    let p = c .before .before in
     let s = p .before .before in
-    rw (c .before .row2 .ensures, s .scale-of .ensures) (ranged (s .before .before .before .before .before .args .sheet) (part p .sheet) .low)
+    rw (c .first .ensures, s .scale-of .ensures) (ranged (s .before .before .before .before .before .args .sheet) (part p .sheet) .low)
 
 part-index-requires : tie.Need-part-index-requires
 part-index-requires c κs =
-    let p = c .before .before .before in
-    rw (c .before .before .row .ensures, c .before .row2 .ensures, p .before .before .scale-of .ensures) (child-part (part p))
+    let p = c .before .before in
+    rw (c .before .row .ensures, c .first .ensures, p .before .before .scale-of .ensures) (child-part (part p))
 
-add-t15 : tie.Need-add-t15
-add-t15 c =
-    let r = c .before .before .before in
+add-t14 : tie.Need-add-t14
+add-t14 c =
+    let r = c .before .before in
     let p = r .before .before in
-    rw (c .before .part-index .ensures, r .before .row .ensures, r .row2 .ensures, p .before .before .scale-of .ensures)
+    rw (c .before .part-index .ensures, r .before .row .ensures, r .first .ensures, p .before .before .scale-of .ensures)
     (omega (arith, child-few (part p), rules (part p .scale) .low))
 
 returns-4 : tie.Need-returns-4
 unfolding child
 returns-4 c =
-    let r = c .before .before .before in
+    let r = c .before .before in
     let p = r .before .before in
     let d = p .before .before .before in
-    rw (c .before .part-index .ensures, r .before .row .ensures, r .row2 .ensures, p .before .before .scale-of .ensures, sheet (d .before .before), is-scale d, holds (is-part (p .before)) (p .if3 .left))
+    rw (c .before .part-index .ensures, r .before .row .ensures, r .first .ensures, p .before .before .scale-of .ensures, sheet (d .before .before), is-scale d, holds (is-part (p .before)) (p .if3 .left))
 
 pub child-spec : {M : Type 1} → statement M
 child-spec =
@@ -99,8 +99,8 @@ child-spec =
     is-part-requires
     returns-3
     row-requires
-    row-requires-2
+    first-requires
     sub-index
     part-index-requires
-    add-t15
+    add-t14
     returns-4)

@@ -1,18 +1,13 @@
 -- The row has the parent and the parts. Assumes nothing.
-use native.Mathlib.Omega.{arith}
 use borrow.Author.Needs.{needs}
-use Rattle.division.proofs.TableLaws.{few-parts}
 use Rattle.division.proofs.relations.is_part.Statement.{statement}
 use Rattle.division.proofs.relations.is_part.Tie as tie
 
 row-requires : tie.Need-row-requires
 row-requires c κs = search needs
 
-mul-each : tie.Need-mul-each
-mul-each c = rw (c .before .row .ensures) (omega (arith, few-parts (c .before .before .args .s)))
-
 returns : tie.Need-returns
-returns c = rw (c .before .before .row .ensures)
+returns c = rw (c .before .row .ensures)
 
 pub is-part-spec : {M : Type 1} → statement M
-is-part-spec = tie.close (tie.spec row-requires mul-each returns)
+is-part-spec = tie.close (tie.spec row-requires returns)

@@ -9,7 +9,6 @@ use Rattle.refusal.proofs.PaperLaws.{fails, holds}
 use Rattle.division.specs.Table.{parentScale, codeRow}
 use Rattle.division.specs.Sheet.{isSheet, scaleOf}
 use Rattle.division.specs.Relations.{parent}
-use Rattle.division.proofs.TableLaws.{few-parts}
 use Rattle.division.proofs.NumberLaws.{ranged}
 use Rattle.division.proofs.FamilyLaws.{parted, parent-low}
 use Rattle.division.proofs.relations.parent.Statement.{statement}
@@ -33,7 +32,7 @@ unfolding parent
 returns c = rw (fails (c .before .is-sheet .ensures) (c .if1 .taken))
 
 scale-of-requires : tie.Need-scale-of-requires
-scale-of-requires c κs = search needs
+scale-of-requires c κs = sheet c
 
 row-requires : tie.Need-row-requires
 row-requires c κs = search needs
@@ -42,35 +41,30 @@ returns-2 : tie.Need-returns-2
 unfolding parent
 returns-2 c = rw (sheet (c .before .before .before), lt-leb 1 _ (rw (row (c .before)) at (c .if2 .taken)))
 
-mul-each : tie.Need-mul-each
-mul-each c =
+first-requires : tie.Need-first-requires
+first-requires c κs = search needs
+
+sub-above : tie.Need-sub-above
+sub-above c =
     let r = c .before .before in
-    rw (row r) (omega (arith, few-parts (scaleOf (r .before .before .before .before .args .sheet))))
-
-row-requires-2 : tie.Need-row-requires-2
-row-requires-2 c κs = search needs
-
-sub-t9 : tie.Need-sub-t9
-sub-t9 c =
-    let r = c .before .before .before .before in
     rw (row r) (ranged (r .before .before .before .before .args .sheet) (sheet (r .before .before)) .low)
 
-div-t12 : tie.Need-div-t12
-div-t12 c =
-    let r = c .before .before .before .before in
-    let k = parted (ranged (r .before .before .before .before .args .sheet) (sheet (r .before .before)) .scale) (deep (c .before .before .before)) in
+div-above : tie.Need-div-above
+div-above c =
+    let r = c .before .before in
+    let k = parted (ranged (r .before .before .before .before .args .sheet) (sheet (r .before .before)) .scale) (deep (c .before)) in
     rw (row r) (mul-pos (k .some) (k .some))
 
-add-t13 : tie.Need-add-t13
-add-t13 c =
-    let r = c .before .before .before .before .before in
-    rw (c .before .before .row2 .ensures, row r) (omega (arith, parent-low (r .before .before .before .before .args .sheet) (sheet (r .before .before)) (deep (c .before .before .before .before))))
+add-t11 : tie.Need-add-t11
+add-t11 c =
+    let r = c .before .before in
+    rw (c .first .ensures, row r) (omega (arith, parent-low (r .before .before .before .before .args .sheet) (sheet (r .before .before)) (deep (c .before))))
 
 returns-3 : tie.Need-returns-3
 unfolding parent
 returns-3 c =
-    let r = c .before .before .before .before .before in
-    rw (c .before .before .row2 .ensures, row r, sheet (r .before .before), le-leb 1 _ (rw (row r) at (c .before .before .before .before .if2 .left)))
+    let r = c .before .before in
+    rw (c .first .ensures, row r, sheet (r .before .before), le-leb 1 _ (rw (row r) at (c .before .if2 .left)))
 
 pub parent-spec : {M : Type 1} → statement M
 parent-spec =
@@ -81,9 +75,8 @@ parent-spec =
     scale-of-requires
     row-requires
     returns-2
-    mul-each
-    row-requires-2
-    sub-t9
-    div-t12
-    add-t13
+    first-requires
+    sub-above
+    div-above
+    add-t11
     returns-3)

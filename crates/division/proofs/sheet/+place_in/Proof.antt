@@ -3,7 +3,7 @@ use mathlib.Core.Path.{sym}
 use native.Mathlib.Nat.{mul-pos}
 use native.Mathlib.Omega.{arith}
 use Rattle.division.specs.Given.{Parted}
-use Rattle.division.specs.Table.{parts}
+use Rattle.division.specs.Table.{side}
 use Rattle.division.proofs.MadeLaws.{left-few}
 use Rattle.division.proofs.TableLaws.{rules}
 use Rattle.division.proofs.FamilyLaws.{some-columns, top-place, parted, square-few, parent-indexed, deep-room, deep-place}
@@ -33,8 +33,11 @@ abbrev known : ℕ → place-in-lts.Claims
 known t = (row-reads.Asked, row-reads.Learnt, area-place-reads.Asked, area-place-reads.Learnt, place-in-below t, place-in.Post, child-place-reads.Asked, child-place-reads.Learnt)
 
 -- where the scale has a parent, it is cut into parts
-cut : (t : ℕ) (c : place-in-lts.Else1 (known t) (place-in-at t) place-in.Post) → Parted (c .before .row .result .parts)
-cut t c = rw (c .before .row .ensures) (parted (c .before .before .pre .1 .scale) (rw (c .before .row .ensures) at (c .if1 .left)))
+cut : (t : ℕ) (c : place-in-lts.Else1 (known t) (place-in-at t) place-in.Post) → Parted (side (c .before .before .args .s))
+cut t c = parted (c .before .before .pre .1 .scale) (rw (c .before .row .ensures) at (c .if1 .left))
+
+some : (t : ℕ) (c : place-in-lts.Else1 (known t) (place-in-at t) place-in.Post) → 0 < c .before .row .result .parts
+some t c = rw (c .before .row .ensures) (mul-pos (cut t c .some) (cut t c .some))
 
 place-in-row-requires : (t : ℕ) → place-in-lts.Need-row-requires (known t) (place-in-at t) place-in.Post
 place-in-row-requires t c κs = tt
@@ -50,38 +53,36 @@ place-in-returns t c =
     let r = c .before .before .row .ensures in
     rw (c .area-place .ensures, r) (sym (top-place (a .pre .1 .scale) (rw r at (c .before .if1 .taken)) (a .args .i)))
 
-place-in-mul-each : (t : ℕ) → place-in-lts.Need-mul-each (known t) (place-in-at t) place-in.Post
-place-in-mul-each t c = omega (arith, square-few (cut t (c .before)))
-
 place-in-div-place-in : (t : ℕ) → place-in-lts.Need-div-place-in (known t) (place-in-at t) place-in.Post
-place-in-div-place-in t c = let k = cut t (c .before) in mul-pos (k .some) (k .some)
+place-in-div-place-in t c = some t c
 
 place-in-place-in-requires : (t : ℕ) → place-in-lts.Need-place-in-requires (known t) (place-in-at t) place-in.Post
 place-in-place-in-requires t c κs =
-    let a = c .before .before .before in
-    let r = c .before .before .row .ensures in
-    rw r (omega (arith, a .pre .0, rules (a .pre .1 .scale) .above), parent-indexed (a .pre .1 .scale) (rw r at (c .before .if1 .left)) (a .args .i) (a .pre .1))
+    let a = c .before .before in
+    let r = c .before .row .ensures in
+    rw r (omega (arith, a .pre .0, rules (a .pre .1 .scale) .above), parent-indexed (a .pre .1 .scale) (rw r at (c .if1 .left)) (a .args .i) (a .pre .1))
 
 place-in-rem-child-place : (t : ℕ) → place-in-lts.Need-rem-child-place (known t) (place-in-at t) place-in.Post
-place-in-rem-child-place t c = let k = cut t (c .before .before) in mul-pos (k .some) (k .some)
+place-in-rem-child-place t c = some t (c .before)
 
 place-in-add-child-place : (t : ℕ) → place-in-lts.Need-add-child-place (known t) (place-in-at t) place-in.Post
 place-in-add-child-place t c =
-    let a = c .before .before .before .before in
-    let r = c .before .before .before .row .ensures in
-    rw r (omega (arith, left-few (parts (a .args .s)) (a .args .i) (rw r at (cut t (c .before .before) .some)), rw r at (square-few (cut t (c .before .before)))))
+    let a = c .before .before .before in
+    let r = c .before .before .row .ensures in
+    let k = cut t (c .before) in
+    rw r (omega (arith, left-few (side (a .args .s)) (a .args .i) (k .some), square-few k))
 
 place-in-child-place-requires : (t : ℕ) → place-in-lts.Need-child-place-requires (known t) (place-in-at t) place-in.Post
 place-in-child-place-requires t c κs =
-    let a = c .before .before .before .before in
-    let r = c .before .before .before .row .ensures in
-    rw (c .place-in .ensures, r) (deep-room (a .pre .1 .scale) (rw r at (c .before .before .if1 .left)) (a .args .i) (a .pre .1))
+    let a = c .before .before .before in
+    let r = c .before .before .row .ensures in
+    rw (c .place-in .ensures, r) (deep-room (a .pre .1 .scale) (rw r at (c .before .if1 .left)) (a .args .i) (a .pre .1))
 
 place-in-returns-2 : (t : ℕ) → place-in-lts.Need-returns-2 (known t) (place-in-at t) place-in.Post
 place-in-returns-2 t c =
-    let a = c .before .before .before .before .before in
-    let r = c .before .before .before .before .row .ensures in
-    rw (c .child-place .ensures, c .before .place-in .ensures, r) (sym (deep-place (a .pre .1 .scale) (rw r at (c .before .before .before .if1 .left)) (a .args .i) (a .pre .1)))
+    let a = c .before .before .before .before in
+    let r = c .before .before .before .row .ensures in
+    rw (c .child-place .ensures, c .before .place-in .ensures, r) (sym (deep-place (a .pre .1 .scale) (rw r at (c .before .before .if1 .left)) (a .args .i) (a .pre .1)))
 
 pub +place-in-spec : {M : Type 1} → statement M
 +place-in-spec = close μ-place-in λ t. place-in-lts.spec (known t)
@@ -90,7 +91,6 @@ pub +place-in-spec : {M : Type 1} → statement M
     (place-in-row-requires t)
     (place-in-area-place-requires t)
     (place-in-returns t)
-    (place-in-mul-each t)
     (place-in-div-place-in t)
     (place-in-place-in-requires t)
     (place-in-rem-child-place t)

@@ -1,7 +1,7 @@
 -- Each turn takes the number in the parent and goes on at the parent's place, up to a scale that is made from the area. The measure is the parent. Assumes nothing.
 use native.Mathlib.Omega.{arith}
 use borrow.Author.Needs.{needs}
-use Rattle.division.proofs.FamilyLaws.{Climb, climb-first, climb-area, climb-small, climb-done, climb-parted, climb-up, climb-sum, climb-each, climb-next, square-few}
+use Rattle.division.proofs.FamilyLaws.{Climb, climb-first, climb-area, climb-small, climb-done, climb-parted, climb-up, climb-sum, climb-each, climb-next}
 use Rattle.division.proofs.sheet.index_of.Statement.{statement}
 use Rattle.division.proofs.sheet.index_of.Tie as tie
 
@@ -30,10 +30,7 @@ add-index : tie.Need-add-index Inv-loop μ-loop
 add-index c = omega (arith, climb-sum (c .before .before .before .loop .inv) (c .before .if1 .taken) (c .number-in .result) (c .number-in .ensures))
 
 mul-each : tie.Need-mul-each Inv-loop μ-loop
-mul-each c = omega (arith, square-few (climb-parted (c .before .before .before .loop .inv) (c .before .if1 .taken)))
-
-mul-each-2 : tie.Need-mul-each-2 Inv-loop μ-loop
-mul-each-2 c = omega (arith, climb-each (c .before .before .before .loop .inv) (c .before .if1 .taken))
+mul-each c = omega (arith, climb-each (c .before .before .before .loop .inv) (c .before .if1 .taken))
 
 parent-place-requires : tie.Need-parent-place-requires Inv-loop μ-loop
 parent-place-requires c κs = climb-parted (c .before .before .before .loop .inv) (c .before .if1 .taken)
@@ -74,7 +71,6 @@ index-of-spec =
     mul-index
     add-index
     mul-each
-    mul-each-2
     parent-place-requires
     row-requires-2
     loop-less

@@ -6,19 +6,19 @@ use Rattle.division.proofs.NumberLaws.{index-few}
 use Rattle.division.proofs.sheet.number_at.Statement.{statement}
 use Rattle.division.proofs.sheet.number_at.Tie as tie
 
-row-requires : tie.Need-row-requires
-row-requires c κs = search needs
+first-requires : tie.Need-first-requires
+first-requires c κs = search needs
 
 index-of-requires : tie.Need-index-of-requires
 index-of-requires c κs = search needs
 
 add-result : tie.Need-add-result
 add-result c =
-    let o = c .before .before .before .pre in
-    rw (c .before .before .row .ensures, c .before .index-of .ensures) (omega (arith, index-few o, rules (o .scale) .low))
+    let o = c .before .before .pre in
+    rw (c .before .first .ensures, c .index-of .ensures) (omega (arith, index-few o, rules (o .scale) .low))
 
 returns : tie.Need-returns
-returns c = rw (c .before .before .row .ensures, c .before .index-of .ensures)
+returns c = rw (c .before .first .ensures, c .index-of .ensures)
 
 pub number-at-spec : {M : Type 1} → statement M
-number-at-spec = tie.close (tie.spec row-requires index-of-requires add-result returns)
+number-at-spec = tie.close (tie.spec first-requires index-of-requires add-result returns)

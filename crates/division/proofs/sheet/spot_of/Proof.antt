@@ -7,18 +7,18 @@ use Rattle.division.proofs.sheet.spot_of.Tie as tie
 scale-of-requires : tie.Need-scale-of-requires
 scale-of-requires c κs = search needs
 
-row-requires : tie.Need-row-requires
-row-requires c κs = search needs
+first-requires : tie.Need-first-requires
+first-requires c κs = search needs
 
 sub-place-in : tie.Need-sub-place-in
-sub-place-in c = rw (c .row .ensures, c .before .scale-of .ensures) (ranged (c .before .before .args .n) (c .before .before .pre) .low)
+sub-place-in c = rw (c .first .ensures, c .before .scale-of .ensures) (ranged (c .before .before .args .n) (c .before .before .pre) .low)
 
 place-in-requires : tie.Need-place-in-requires
-place-in-requires c κs = rw (c .row .ensures, c .before .scale-of .ensures) (indexed (c .before .before .args .n) (c .before .before .pre))
+place-in-requires c κs = rw (c .first .ensures, c .before .scale-of .ensures) (indexed (c .before .before .args .n) (c .before .before .pre))
 
 returns : tie.Need-returns
-returns c = rw (c .place-in .ensures, c .before .row .ensures, c .before .before .scale-of .ensures)
+returns c = rw (c .place-in .ensures, c .before .first .ensures, c .before .before .scale-of .ensures)
 
 pub spot-of-spec : {M : Type 1} → statement M
 spot-of-spec =
-    tie.close (tie.spec scale-of-requires row-requires sub-place-in place-in-requires returns)
+    tie.close (tie.spec scale-of-requires first-requires sub-place-in place-in-requires returns)

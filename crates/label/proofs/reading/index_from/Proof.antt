@@ -25,58 +25,55 @@ mul-number c = let l = next-field (c .before .before .loop .inv) (c .if1 .taken)
 shared-slice-read-number : tie.Need-shared-slice-read-number Inv-loop μ-loop
 shared-slice-read-number c = next-field (c .before .before .before .loop .inv) (c .before .if1 .taken)
 
-mul-parts : tie.Need-mul-parts Inv-loop μ-loop
-mul-parts c = let d = c .before .before in omega (arith, parts-few (d .before .before .loop .inv) (d .if1 .taken))
-
 is-part-requires : tie.Need-is-part-requires Inv-loop μ-loop
 is-part-requires c κs = search needs
 
 returns : tie.Need-returns Inv-loop μ-loop
 returns c =
-    let d = c .before .before .before .before in
+    let d = c .before .before .before in
     reckoning-out (d .before .before .loop .inv) (d .if1 .taken) (fails (c .before .is-part .ensures) (c .if2 .taken))
 
 sub-j : tie.Need-sub-j Inv-loop μ-loop
 sub-j c =
-    let d = c .before .before .before .before in
+    let d = c .before .before .before in
     in-range (d .before .before .loop .inv) (d .if1 .taken) (holds (c .before .is-part .ensures) (c .if2 .left)) .0
 
 cast-j : tie.Need-cast-j Inv-loop μ-loop
 cast-j c =
-    let d = c .before .before .before .before in
+    let d = c .before .before .before in
     let r = d .before .before .loop .inv in
     omega (arith, in-range r (d .if1 .taken) (holds (c .before .is-part .ensures) (c .if2 .left)) .1, parts-few r (d .if1 .taken))
 
 mul-index : tie.Need-mul-index Inv-loop μ-loop
 mul-index c =
-    let d = c .before .before .before .before in
+    let d = c .before .before .before in
     let r = d .before .before .loop .inv in
     omega (arith, sum-less r (d .if1 .taken) (holds (c .before .is-part .ensures) (c .if2 .left)), each-small r (d .if1 .taken))
 
 add-index : tie.Need-add-index Inv-loop μ-loop
 add-index c =
-    let d = c .before .before .before .before in
+    let d = c .before .before .before in
     let r = d .before .before .loop .inv in
     omega (arith, sum-less r (d .if1 .taken) (holds (c .before .is-part .ensures) (c .if2 .left)), each-small r (d .if1 .taken))
 
 mul-each : tie.Need-mul-each Inv-loop μ-loop
-mul-each c = let d = c .before .before .before .before in omega (arith, each-small (d .before .before .loop .inv) (d .if1 .taken))
+mul-each c = let d = c .before .before .before in omega (arith, each-small (d .before .before .loop .inv) (d .if1 .taken))
 
 add-i : tie.Need-add-i Inv-loop μ-loop
 add-i c =
-    let d = c .before .before .before .before in
+    let d = c .before .before .before in
     let l = next-field (d .before .before .loop .inv) (d .if1 .taken) in search needs
 
 row-requires-2 : tie.Need-row-requires-2 Inv-loop μ-loop
 row-requires-2 c κs = search needs
 
 loop-less : tie.Need-loop-less Inv-loop μ-loop
-loop-less c = let d = c .before .before .before .before .before in rw (c .row2 .ensures) (higher (d .before .before .loop .inv) (d .if1 .taken))
+loop-less c = let d = c .before .before .before .before in rw (c .row2 .ensures) (higher (d .before .before .loop .inv) (d .if1 .taken))
 
 loop-again : tie.Need-loop-again Inv-loop μ-loop
 loop-again c =
     let p = c .before .before in
-    let d = p .before .before .before in
+    let d = p .before .before in
     reckoning-next (d .before .before .loop .inv) (d .if1 .taken) (holds (p .is-part .ensures) (c .before .if2 .left)) (c .row2 .result) (c .row2 .ensures)
 
 mul-row : tie.Need-mul-row Inv-loop μ-loop
@@ -118,7 +115,6 @@ index-from-spec =
     loop-holds
     mul-number
     shared-slice-read-number
-    mul-parts
     is-part-requires
     returns
     sub-j

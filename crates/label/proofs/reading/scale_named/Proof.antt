@@ -6,7 +6,7 @@ use borrow.Author.Tests.{ne-eqb}
 use lib.Dec.{eqb}
 use Rattle.division.specs.Words.{from, keep}
 use Rattle.division.specs.Table.{table, tableRow}
-use Rattle.label.specs.Label.{markOf, countOf, scaleNamed}
+use Rattle.label.specs.Label.{markOf, countOf, scaleWith}
 use Rattle.label.proofs.reading.scale_named.Statement.{statement}
 use Rattle.label.proofs.reading.scale_named.Tie as tie
 
@@ -14,7 +14,7 @@ other : (n x : ℕ) → (x ≡ n → ⊥) → eqb n x ≡ false
 other n x h = ne-eqb n x (λ e. h (sym e))
 
 pub scale-named-spec : {M : Type 1} → statement M
-unfolding scaleNamed markOf countOf table tableRow from keep
+unfolding scaleWith markOf countOf table tableRow from keep
 scale-named-spec =
     tie.close
     (tie.spec

@@ -15,14 +15,14 @@ enum-told c = search needs
 enum-known-i : tie.Need-enum-known-i
 enum-known-i c = search needs
 
-row-requires : tie.Need-row-requires
-row-requires c κs = search needs
+first-requires : tie.Need-first-requires
+first-requires c κs = search needs
 
 add-t9 : tie.Need-add-t9
 add-t9 c =
-    let d = c .before .before .before in
+    let d = c .before .before in
     let a = d .before .before .before .before in
-    rw (c .before .row .ensures) (omega (arith, sheet-few (a .pre) (sym (d .before .before .index-from .ensures) ∙ d .i .given .1)))
+    rw (c .first .ensures) (omega (arith, sheet-few (a .pre) (sym (d .before .before .index-from .ensures) ∙ d .i .given .1)))
 
 returns : tie.Need-returns
 returns c =
@@ -32,11 +32,11 @@ returns c =
 
 returns-2 : tie.Need-returns-2
 returns-2 c =
-    let d = c .before .before .before in
+    let d = c .before .before in
     let a = d .before .before .before .before .args in
-    rw (c .before .row .ensures, sheet-reckoned (a .s) (a .fields .now), ← (d .before .before .index-from .ensures), d .i .given .1)
+    rw (c .first .ensures, sheet-reckoned (a .s) (a .fields .now), ← (d .before .before .index-from .ensures), d .i .given .1)
 
 pub sheet-from-spec : {M : Type 1} → statement M
 sheet-from-spec =
     tie.close
-    (tie.spec index-from-requires enum-told enum-known-i row-requires add-t9 returns returns-2)
+    (tie.spec index-from-requires enum-told enum-known-i first-requires add-t9 returns returns-2)

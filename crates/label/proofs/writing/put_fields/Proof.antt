@@ -1,10 +1,8 @@
 -- Each turn puts the number in the parent and goes on with the parent's fields, up to a scale that is made from the area. The measure is the parent. Assumes nothing.
-use native.Mathlib.Nat.{mul-pos}
 use native.Mathlib.Omega.{arith}
 use borrow.Author.Needs.{needs}
-use Rattle.division.proofs.FamilyLaws.{square-few}
 use Rattle.label.specs.Given.{text}
-use Rattle.label.proofs.WritingLaws.{Going, going-first, area-room, going-done, cut, higher, number-room, going-next}
+use Rattle.label.proofs.WritingLaws.{Going, going-first, area-room, going-done, some-parts, higher, number-room, going-next}
 use Rattle.label.proofs.writing.put_fields.Statement.{statement}
 use Rattle.label.proofs.writing.put_fields.Tie as tie
 
@@ -20,37 +18,30 @@ row-requires c κs = search needs
 loop-holds : tie.Need-loop-holds Inv-loop μ-loop
 loop-holds c = going-first (c .row .result) (c .row .ensures) (c .before .before .pre)
 
-mul-each : tie.Need-mul-each Inv-loop μ-loop
-mul-each c = let d = c .before in omega (arith, square-few (cut (d .before .before .loop .inv) (d .if1 .taken)))
-
 rem-put-field : tie.Need-rem-put-field Inv-loop μ-loop
-rem-put-field c =
-    let d = c .before in
-    let k = cut (d .before .before .loop .inv) (d .if1 .taken) in mul-pos (k .some) (k .some)
+rem-put-field c = some-parts (c .before .before .loop .inv) (c .if1 .taken)
 
 add-put-field : tie.Need-add-put-field Inv-loop μ-loop
-add-put-field c = let d = c .before in omega (arith, number-room (d .before .before .loop .inv) (d .if1 .taken) .few)
+add-put-field c = omega (arith, number-room (c .before .before .loop .inv) (c .if1 .taken) .few)
 
 put-field-requires : tie.Need-put-field-requires Inv-loop μ-loop
-put-field-requires c κs = let d = c .before .before in number-room (d .before .before .loop .inv) (d .if1 .taken)
+put-field-requires c κs = let d = c .before in number-room (d .before .before .loop .inv) (d .if1 .taken)
 
 div-index : tie.Need-div-index Inv-loop μ-loop
-div-index c =
-    let d = c .before .before .before .before .before in
-    let k = cut (d .before .before .loop .inv) (d .if1 .taken) in mul-pos (k .some) (k .some)
+div-index c = let d = c .before .before .before .before in some-parts (d .before .before .loop .inv) (d .if1 .taken)
 
 row-requires-2 : tie.Need-row-requires-2 Inv-loop μ-loop
 row-requires-2 c κs = search needs
 
 loop-less : tie.Need-loop-less Inv-loop μ-loop
 loop-less c =
-    let d = c .before .before .before .before .before .before in
+    let d = c .before .before .before .before .before in
     rw (c .row2 .ensures) (higher (d .before .before .loop .inv) (d .if1 .taken))
 
 loop-again : tie.Need-loop-again Inv-loop μ-loop
 loop-again c =
     let p = c .before .before .before in
-    let d = p .before .before .before in
+    let d = p .before .before in
     going-next (d .before .before .loop .inv) (d .if1 .taken) (p .put-field .ensures) (p .put-field .kept .1 .0) (c .row2 .result) (c .row2 .ensures)
 
 put-area-requires : tie.Need-put-area-requires Inv-loop μ-loop
@@ -73,7 +64,6 @@ put-fields-spec =
     μ-loop
     row-requires
     loop-holds
-    mul-each
     rem-put-field
     add-put-field
     put-field-requires

@@ -1,8 +1,6 @@
 -- A sheet has a scale and an index there, and its label has room. Assumes nothing.
-use mathlib.Core.Path.{_≡_, refl, ap, _∙_}
-use mathlib.Core.Bool.{Bool, cond}
+use mathlib.Core.Path.{refl}
 use borrow.Author.Needs.{needs}
-use Rattle.division.specs.Sheet.{scaleOf}
 use Rattle.division.proofs.NumberLaws.{ranged}
 use Rattle.label.proofs.WritingLaws.{mark-room, fields-room, sheet-spelt}
 use Rattle.label.proofs.writing.text_of.Statement.{statement}
@@ -11,12 +9,8 @@ use Rattle.label.proofs.writing.text_of.Tie as tie
 of-requires : tie.Need-of-requires
 of-requires c κs = search needs
 
--- the scale that is found is the sheet's
-found : (c : tie.After-of) → c .of .result .0 ≡ scaleOf (c .before .args .sheet)
-found c = c .of .ensures ∙ ap (λ (b : Bool). cond b (scaleOf (c .before .args .sheet)) 0) (c .before .pre)
-
-row-requires : tie.Need-row-requires
-row-requires c κs = search needs
+first-requires : tie.Need-first-requires
+first-requires c κs = search needs
 
 mark-of-requires : tie.Need-mark-of-requires
 mark-of-requires c κs = search needs
@@ -28,13 +22,13 @@ put-number-requires : tie.Need-put-number-requires
 put-number-requires c κs =
     let m = c .before in
     let a = m .before .before .before in
-    rw (m .mark-of .ensures, found (m .before .before)) (mark-room (a .args .sheet) (a .pre) refl refl)
+    rw (m .mark-of .ensures, m .before .before .of .ensures) (mark-room (a .args .sheet) (a .pre) refl refl)
 
 sub-put-fields : tie.Need-sub-put-fields
 sub-put-fields c =
     let m = c .before .before .before in
     let a = m .before .before .before in
-    rw (m .before .row .ensures, found (m .before .before)) (ranged (a .args .sheet) (a .pre) .low)
+    rw (m .before .first .ensures, m .before .before .of .ensures) (ranged (a .args .sheet) (a .pre) .low)
 
 slice-aggregate-put-fields : tie.Need-slice-aggregate-put-fields
 slice-aggregate-put-fields c = search needs
@@ -44,24 +38,24 @@ put-fields-requires c κs =
     let n = c .before .before in
     let m = n .before .before in
     let a = m .before .before .before in
-    let f = found (m .before .before) in
-    rw (m .before .row .ensures, f) (fields-room (a .args .sheet) (a .pre) refl (rw (m .mark-of .ensures, f) at (n .put-number .ensures)) (n .put-number .kept .1 .0))
+    let f = m .before .before .of .ensures in
+    rw (m .before .first .ensures, f) (fields-room (a .args .sheet) (a .pre) refl (rw (m .mark-of .ensures, f) at (n .put-number .ensures)) (n .put-number .kept .1 .0))
 
 returns : tie.Need-returns
 returns c =
     let n = c .before .before .before .before in
     let m = n .before .before in
     let a = m .before .before .before in
-    let f = found (m .before .before) in
+    let f = m .before .before .of .ensures in
     sheet-spelt (a .args .sheet) (a .pre) refl (rw (m .mark-of .ensures, f) at (n .put-number .ensures))
-    (rw (m .before .row .ensures, f) at (c .before .put-fields .ensures))
+    (rw (m .before .first .ensures, f) at (c .before .put-fields .ensures))
 
 pub text-of-spec : {M : Type 1} → statement M
 text-of-spec =
     tie.close
     (tie.spec
     of-requires
-    row-requires
+    first-requires
     mark-of-requires
     slice-aggregate-put-number
     put-number-requires

@@ -29,7 +29,7 @@ returns c =
 returns-2 : tie.Need-returns-2
 returns-2 c =
     let a = c .before .before in
-    rw (← refused-so (a .why .given .0 .0) (c .numbered .ensures) (arm offsetPaper (a .why .given .1) (a .before .before .offset .ensures))) (refl, (refl, refl))
+    rw (← refused-so (a .why .given .0 .0) (c .numbered .ensures .told) (arm offsetPaper (a .why .given .1) (a .before .before .offset .ensures))) (refl, (refl, refl))
 
 pub qubathimi-offset-spec : {M : Type 1} → statement M
 qubathimi-offset-spec =

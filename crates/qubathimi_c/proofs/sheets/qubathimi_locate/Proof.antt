@@ -26,7 +26,7 @@ returns c =
 returns-2 : tie.Need-returns-2
 returns-2 c =
     let a = c .before .before in
-    rw (← refused-so (a .why .given .0 .0) (c .numbered .ensures) (arm spotPaper (a .why .given .1) (a .before .before .locate .ensures))) (refl, (refl, (refl, refl)))
+    rw (← refused-so (a .why .given .0 .0) (c .numbered .ensures .told) (arm spotPaper (a .why .given .1) (a .before .before .locate .ensures))) (refl, (refl, (refl, refl)))
 
 pub qubathimi-locate-spec : {M : Type 1} → statement M
 qubathimi-locate-spec =

@@ -1,14 +1,16 @@
 -- Each arm is a line of the paper's table, and the arm that is taken is the refusal asked. Assumes nothing.
-use mathlib.Core.Path.{_≡_, sym, ap}
+use mathlib.Core.Path.{_≡_, refl, sym, ap}
 use Prim.Native.Nat.{ℕ}
 use Rattle.refusal.specs.declared.Refusal.{Refusal}
-use Rattle.refusal.specs.Numbers.{onPaper}
+use Rattle.refusal.specs.declared.Numbered.{Numbered}
+use Rattle.refusal.specs.Paper.{refused}
+use Rattle.refusal.specs.Numbers.{onPaper, carries, IsNumbered}
 use borrow.Author.Needs.{needs}
 use Rattle.refusal.proofs.Refusal.numbered.Statement.{statement}
 use Rattle.refusal.proofs.Refusal.numbered.Tie as tie
 
-told : {asked why : Refusal} → asked ≡ why → onPaper {A = ℕ} why ≡ onPaper asked
-told e = sym (ap onPaper e)
+told : {asked why : Refusal} {r : Numbered} → asked ≡ why → refused (r .0) (r .1) ≡ onPaper {A = ℕ} why → r .2 ≡ carries (r .0) → IsNumbered asked r
+told e f g = record { told = rw e f; carried = g }
 
 enum-told : tie.Need-enum-told
 enum-told c = search needs
@@ -62,55 +64,55 @@ enum-told-16 : tie.Need-enum-told-16
 enum-told-16 c = search needs
 
 returns : tie.Need-returns
-returns c = told (c .enum-told .given .1)
+returns c = told (c .enum-told .given .1) refl refl
 
 returns-2 : tie.Need-returns-2
-returns-2 c = told (c .enum-told2 .given .1)
+returns-2 c = told (c .enum-told2 .given .1) refl refl
 
 returns-3 : tie.Need-returns-3
-returns-3 c = told (c .enum-told3 .given .1)
+returns-3 c = told (c .enum-told3 .given .1) refl refl
 
 returns-4 : tie.Need-returns-4
-returns-4 c = told (c .enum-told4 .given .1)
+returns-4 c = told (c .enum-told4 .given .1) refl refl
 
 returns-5 : tie.Need-returns-5
-returns-5 c = told (c .enum-told5 .given .1)
+returns-5 c = told (c .enum-told5 .given .1) refl refl
 
 returns-6 : tie.Need-returns-6
-returns-6 c = told (c .enum-told6 .given .1)
+returns-6 c = told (c .enum-told6 .given .1) refl refl
 
 returns-7 : tie.Need-returns-7
-returns-7 c = told (c .enum-told7 .given .1)
+returns-7 c = told (c .enum-told7 .given .1) refl refl
 
 returns-8 : tie.Need-returns-8
-returns-8 c = told (c .enum-told8 .given .1)
+returns-8 c = told (c .enum-told8 .given .1) refl refl
 
 returns-9 : tie.Need-returns-9
-returns-9 c = told (c .enum-told9 .given .1)
+returns-9 c = told (c .enum-told9 .given .1) refl refl
 
 returns-10 : tie.Need-returns-10
-returns-10 c = told (c .before .self .given .1)
+returns-10 c = told (c .before .self .given .1) refl refl
 
 returns-11 : tie.Need-returns-11
-returns-11 c = told (c .enum-told10 .given .1)
+returns-11 c = told (c .enum-told10 .given .1) refl refl
 
 returns-12 : tie.Need-returns-12
-returns-12 c = told (c .enum-told11 .given .1)
+returns-12 c = told (c .enum-told11 .given .1) refl refl
 
 returns-13 : tie.Need-returns-13
-returns-13 c = told (c .enum-told12 .given .1)
+returns-13 c = told (c .enum-told12 .given .1) refl refl
 
 returns-14 : tie.Need-returns-14
-returns-14 c = told (c .enum-told13 .given .1)
+returns-14 c = told (c .enum-told13 .given .1) refl refl
 
 returns-15 : tie.Need-returns-15
-returns-15 c = told (c .enum-told14 .given .1)
+returns-15 c = told (c .enum-told14 .given .1) refl refl
 
 returns-16 : tie.Need-returns-16
-returns-16 c = told (c .enum-told15 .given .1)
+returns-16 c = told (c .enum-told15 .given .1) refl refl
 
 returns-17 : tie.Need-returns-17
-returns-17 c = told (c .enum-told16 .given .1)
+returns-17 c = told (c .enum-told16 .given .1) refl refl
 
 pub numbered-spec : {M : Type 1} → statement M
 numbered-spec =

@@ -40,7 +40,7 @@ returns c =
     let n = c .before .before .before .before in
     let w = n .before .before .before .put-word in
     let s = c .before .before .put-spaced .ensures in (
-      rw (← n .numbered .ensures, refusal-words (n .numbered .result .0) (n .numbered .result .1)) (then (w .ensures) s),
+      rw (← n .numbered .ensures .told, refusal-words (n .numbered .result .0) (n .numbered .result .1)) (then (w .ensures) s),
       omega (arith, w .ensures .end, s .end, few n),
     )
 
