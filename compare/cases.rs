@@ -3,6 +3,7 @@
 //!
 //!     cases                      writes crates/cases/stdout, and the rows beside each catalogue in samples/, anew
 //!     cases check                says which of them are not so
+//!     cases ask                  the questions on standard input with their answers
 //!     cases rows                 the rows of the catalogue on standard input
 //!     cases lines COUNT SEED     a catalogue of so many lines, nine in ten of them good (compare/lines.rs)
 //!
@@ -320,6 +321,12 @@ fn text_of(path: &str) -> String {
     String::from_utf8(bytes_of(path)).unwrap_or_else(|_| stop(format!("{path}: no UTF-8")))
 }
 
+fn input() -> Vec<u8> {
+    let mut bytes = Vec::new();
+    io::stdin().read_to_end(&mut bytes).unwrap_or_else(|error| stop(error));
+    bytes
+}
+
 fn put(bytes: &[u8]) {
     io::stdout().write_all(bytes).unwrap_or_else(|error| stop(error));
 }
@@ -340,17 +347,20 @@ fn main() {
                 }
             }
         }
-        ["rows"] => {
-            let mut catalogue = Vec::new();
-            io::stdin().read_to_end(&mut catalogue).unwrap_or_else(|error| stop(error));
-            put(paper().0.rows(&catalogue).as_bytes());
+        ["ask"] => {
+            let questions = String::from_utf8(input()).unwrap_or_else(|_| stop("no UTF-8"));
+            let paper = paper();
+            for question in questions.lines() {
+                put(format!("{question}: {}\n", paper.answer(question).unwrap_or("no such question".to_string())).as_bytes());
+            }
         }
+        ["rows"] => put(paper().0.rows(&input()).as_bytes()),
         ["lines", count, seed] => {
             let (Ok(count), Ok(seed)) = (count.parse::<usize>(), seed.parse()) else { stop("lines COUNT SEED") };
             let mut numbers = Numbers(seed);
             let lines: String = (0..count).map(|_| lines::any_line(&mut numbers) + "\n").collect();
             put(lines.as_bytes());
         }
-        _ => stop("it takes nothing, or check, rows, or lines COUNT SEED"),
+        _ => stop("it takes nothing, or check, ask, rows, or lines COUNT SEED"),
     }
 }
