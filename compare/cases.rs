@@ -45,6 +45,12 @@
 //!     bytes 3 0300d702bc        what is read from the bytes as a label, and as a list in room for so many sheets
 //!     vary 3 0300d702bc         a sum over what `bytes` tells when each byte in turn is changed to each of the 256
 //!
+//! The questions that are stored there try, beside the examples: every border by one before, on and behind it (the area's and the sheets'
+//! edges by a millimetre, the grids' ends, each scale's first and last sheet, each field's range, each length of a number in a list, room
+//! that just is enough, 4 096 and 4 097); extremes of 32 and 64 bits, and numbers that would look right if they lost their upper bits;
+//! numbers that are no scale or no sheet; labels as the sources print them, with each kind of fault, and with strange bytes; lists that
+//! are cut, badly written, too long or wrongly counted; two faults at once, for the order of refusals; and some by chance.
+//!
 //! The lines of compare/examples.txt are document 01's examples, question and answer written out by hand: these answers are not asked of
 //! the paper, but must be its own.
 

@@ -2,8 +2,8 @@
  *
  * `rt staticlib qubathimi_c` proves the functions and writes target/staticlib/libqubathimi_c.a, for x86-64 Linux; link it with a program
  * that includes this header. Of the C library it calls memcpy and nothing else. It allocates nothing, needs no setting up and keeps
- * nothing between calls, so any number of them may run at once. docs/DEFINITION.md says what sheets, labels and lists are; "document 01"
- * is the definition that it tells of.
+ * nothing between calls, so any number of them may run at once. examples/use.c shows it in use. docs/DEFINITION.md says what sheets,
+ * labels and lists are; "document 01" is the definition that it tells of.
  *
  * The convention. Seven functions cannot refuse and have their answer as the result: qubathimi_width, _height, _rows, _columns, _first,
  * _last and _scale_of; and so has qubathimi_same_name, which is true or false. For all others:
@@ -85,7 +85,8 @@ uint32_t qubathimi_scale_of(uint32_t sheet);
 
 /* ---- Sheets, places and points ---- */
 
-/* The scale of a sheet, and its row from the north and column from the west on the scale's grid, counted from 0. Refusal: 3. */
+/* The scale of a sheet, and its row from the north and column from the west on the whole grid of the scale, counted from 0. A label
+ * counts otherwise: at scales 1 to 3 its row is this row plus 101, and its column this column plus 1. Refusal: 3. */
 uint32_t qubathimi_locate(uint32_t sheet, uint32_t *scale, uint32_t *row, uint32_t *column);
 
 /* The sheet in a row and a column of a scale, counted from 0. Refusals: 2; 6 for a row or a column off the grid. */
