@@ -102,7 +102,7 @@ impl Form<'_> {
             }
             Err(refusal) => {
                 self.begin(refusal.number);
-                self.number(refusal.value);
+                self.number(refusal.carries.unwrap_or(0));
             }
         }
     }
@@ -310,7 +310,7 @@ impl Question {
                 let (placed, answer) = division.read_list(list, *room);
                 let (result, value) = match answer {
                     Ok(()) => (0, placed.len() as u64),
-                    Err(refusal) => (refusal.number, refusal.value),
+                    Err(refusal) => (refusal.number, refusal.carries.unwrap_or(0)),
                 };
                 form.begin(result);
                 form.number(placed.len() as u64);

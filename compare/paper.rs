@@ -1,25 +1,28 @@
-// Document 01 in plain Rust, written from its text alone, to compare the library with. It goes its own way where it can: the whole
-// division is laid out once, sheet after sheet, in the order in which the document numbers them, and questions are answered by
-// looking there. No sheet number is worked out by a formula, a point finds its sheet by a search of the edges, and a label is
-// read by looking for the sheet whose label is spelt so.
+// Document 01 in plain Rust, written from its text alone, to compare the library with: the one reference implementation. It goes its own
+// way where it can: the whole division is laid out once, sheet after sheet, in the order in which the document numbers them, and
+// questions are answered by looking there. No sheet number is worked out by a formula, a point finds its sheet by a search of the
+// edges, and a label is read by looking for the sheet whose label is spelt so. Its sections are those of the document.
+//
+// against.rs asks it beside the library, through the C interface; cases.rs writes its answers down for crates/cases and samples/.
+#![allow(dead_code)] // neither of the two asks for all of it
 
 use std::ops::Range;
 
-/// A refusal: its number in the table "Numbers of refusal", and the value that it carries (10: the room needed; others: 0).
+/// A refusal: its number in the table "Numbers of refusal", and the value that it carries (10: the room needed; others: none).
 #[derive(Clone, Copy, Debug, PartialEq, Eq)]
 pub struct Refusal {
     pub number: u32,
-    pub value: u64,
+    pub carries: Option<u64>,
 }
 
 pub type Answer<T> = Result<T, Refusal>;
 
 fn refuse<T>(number: u32) -> Answer<T> {
-    Err(Refusal { number, value: 0 })
+    Err(Refusal { number, carries: None })
 }
 
 pub fn too_short<T>(needed: usize) -> Answer<T> {
-    Err(Refusal { number: 10, value: needed as u64 })
+    Err(Refusal { number: 10, carries: Some(needed as u64) })
 }
 
 // ---- "The grid": the area and the table of scales ----
@@ -532,6 +535,26 @@ impl Division {
         let answer = place_list(list, room, &mut placed);
         (placed, answer)
     }
+
+    // ---- "The program" ----
+
+    /// A row for each line: its number from 1, then the sheet and its edges in metres, or "refused" and the refusal. A line ends with
+    /// a line feed; the last one may do without.
+    pub fn rows(&self, catalogue: &[u8]) -> String {
+        let mut lines: Vec<&[u8]> = catalogue.split(|&byte| byte == b'\n').collect();
+        if lines.last().is_some_and(|last| last.is_empty()) {
+            lines.pop();
+        }
+        let row = |(number, line): (usize, &&[u8])| match self.read_line(line).sheet {
+            Ok(sheet) => {
+                let frame = self.frame(sheet).expect("a sheet");
+                let [west, east, south, north] = [frame.west, frame.east, frame.south, frame.north].map(|edge| edge / 1000);
+                format!("{number} {sheet} {west} {east} {south} {north}\n")
+            }
+            Err(refusal) => format!("{number} refused {}\n", refusal.number),
+        };
+        (1..).zip(&lines).map(row).collect()
+    }
 }
 
 /// The form of a label: 1 to 16 bytes, only digits and hyphens, no empty field, no leading zero, and a known first number with its
@@ -572,6 +595,13 @@ pub enum Caption {
 /// "Two names are the same when their bytes are the same."
 pub fn same_name(one: &[u8], other: &[u8]) -> bool {
     one == other
+}
+
+/// How many groups of seven bits a number takes.
+pub fn groups(number: u32) -> usize {
+    let mut list = Vec::new();
+    put_number(&mut list, number);
+    list.len()
 }
 
 /// A number in groups of seven bits, low group first, the high bit set on all but the last.
@@ -781,5 +811,15 @@ mod tests {
         assert_eq!(caption("50-109-11"), Caption::OfFallback(0..4));
         assert_eq!(caption("50-109-11 Rab"), Caption::OfLine(10..13));
         assert_eq!(caption("50-109-11 "), Caption::OfLine(0..0));
+    }
+
+    #[test]
+    fn the_program() {
+        let rows = |text: &str| division().rows(text.as_bytes());
+        let whole = "1 3657982 500000 500300 4999800 5000000\n2 refused 4\n";
+        assert_eq!(rows("5-1-3-301-109-11\n0,5-1-3-301-109-11\n"), whole);
+        assert_eq!(rows("5-1-3-301-109-11\n0,5-1-3-301-109-11"), whole);
+        assert_eq!(rows(""), "");
+        assert_eq!(rows("\n"), "1 refused 4\n");
     }
 }

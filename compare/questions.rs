@@ -1,7 +1,7 @@
 // What is asked: from every kind of question the plain cases, the borders by one, the extremes, and what is damaged.
 
 use crate::ask::{Asker, Question};
-use crate::paper::{self, Division, Frame, Made, AREA_EAST, AREA_NORTH, AREA_SOUTH, AREA_WEST, LAST_SHEET, MOST, SCALES};
+use crate::paper::{self, Division, Frame, Made, Refusal, AREA_EAST, AREA_NORTH, AREA_SOUTH, AREA_WEST, LAST_SHEET, MOST, SCALES};
 
 /// Numbers by chance, the same for the same seed.
 struct Chance(u64);
@@ -496,7 +496,7 @@ impl Asking<'_, '_> {
         let scale = self.scale();
         let window = self.window(if (1..=9).contains(&scale) { scale } else { 4 });
         let needed = match self.division.cover(scale, window, 0) {
-            Err(refusal) if refusal.number == 10 => refusal.value as usize,
+            Err(Refusal { number: 10, carries: Some(needed) }) => needed as usize,
             _ => 5,
         };
         let room = match self.chance.below(12) {
@@ -996,7 +996,7 @@ impl Asking<'_, '_> {
     fn about_a_list(&mut self) {
         let list = self.list();
         let told = match self.division.read_list(&list, 0).1 {
-            Err(refusal) if refusal.number == 10 => refusal.value as usize,
+            Err(Refusal { number: 10, carries: Some(needed) }) => needed as usize,
             _ => 2,
         };
         let room = match self.chance.below(10) {

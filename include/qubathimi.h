@@ -1,21 +1,26 @@
 /* Qubathimi for C and for any language that calls C: map sheets of nine scales, their labels, catalogue lines and shelf lists.
  *
- * `rt staticlib qubathimi_c` proves the functions and writes target/staticlib/libqubathimi_c.a, for x86-64 Linux; link it with this
- * header. "Document 01" is the definition of the sheet division, its labels and the shelf list.
+ * `rt staticlib qubathimi_c` proves the functions and writes target/staticlib/libqubathimi_c.a, for x86-64 Linux; link it with a program
+ * that includes this header. Of the C library it calls memcpy and nothing else. It allocates nothing, needs no setting up and keeps
+ * nothing between calls, so any number of them may run at once. examples/use.c shows it in use. docs/DEFINITION.md says what sheets,
+ * labels and lists are; "document 01" is the definition that it tells of.
  *
- * The convention, the same for every function:
- *  - The result is 0 where the function answers, and otherwise the number of the refusal, 1 to 17. Facts of a scale or a sheet that
- *    cannot be refused are the result themselves.
+ * The convention. Seven functions cannot refuse and have their answer as the result: qubathimi_width, _height, _rows, _columns, _first,
+ * _last and _scale_of; and so has qubathimi_same_name, which is true or false. For all others:
+ *  - The result is 0 where the function answers, and otherwise the number of the refusal, 1 to 17 (enum qubathimi_refusal). Where several
+ *    are due, the first in the order given at the function is the one.
  *  - An answer that is one number goes to *value, and so does the count of what is laid into lent room. *value is written in every
- *    case: of a refusal it is what the refusal carries, the room needed with 10 and otherwise 0.
- *  - An answer of several numbers goes to a pointer for each. A refusal leaves them as they were.
+ *    case: of a refusal it is what the refusal carries, the room needed with 10 and otherwise 0. A sheet in *value always fits the
+ *    uint32_t that functions take.
+ *  - An answer of several numbers goes to a pointer for each. A refusal leaves what they point to as it was.
  *  - Room is lent as a pointer and the number of places (not bytes) there. A refusal writes nothing into it, save the sheets that
  *    qubathimi_read_list has placed; places beyond an answer keep their values.
- *  - No pointer is null, not even with a length of 0. What a call writes to overlaps nothing else that the call is given.
- *  - Any numbers and any bytes may be asked. Where several refusals are due, the first in the order given below is the one.
+ *  - No pointer is null, not even with a length of 0, and not for an output that is not wanted: give it a place of its own. What a call
+ *    writes to overlaps nothing else that the call is given.
+ *  - Any numbers and any bytes may be asked.
  *
- * Sheets are named by their sheet number, 0 to 7 953 173. Points, edges and windows are whole millimetres. A sheet, a window and the
- * area own their west and north edge, not their east and south edge. Nothing is kept between calls: any number may run at once. */
+ * Sheets are named by their sheet number, 0 to 7 953 173, and scales by theirs, 1 (1:250 000) to 9 (1:500). Points, edges and windows are
+ * whole millimetres, east and north. A sheet, a window and the area own their west and north edge, not their east and south edge. */
 #ifndef QUBATHIMI_H
 #define QUBATHIMI_H
 
@@ -40,7 +45,7 @@ extern "C" {
 #define QUBATHIMI_IN_LINE 0
 #define QUBATHIMI_IN_FALLBACK 1
 
-/* Document 01, "Numbers of refusal". */
+/* Document 01, "Numbers of refusal"; docs/REFUSALS.md says what to look at. */
 enum qubathimi_refusal {
     QUBATHIMI_POINT_OUTSIDE = 1,  /* point outside the area */
     QUBATHIMI_NO_SCALE = 2,       /* scale not 1 to 9 */
@@ -80,7 +85,8 @@ uint32_t qubathimi_scale_of(uint32_t sheet);
 
 /* ---- Sheets, places and points ---- */
 
-/* The scale of a sheet, and its row from the north and column from the west on the scale's grid, counted from 0. Refusal: 3. */
+/* The scale of a sheet, and its row from the north and column from the west on the whole grid of the scale, counted from 0. A label
+ * counts otherwise: at scales 1 to 3 its row is this row plus 101, and its column this column plus 1. Refusal: 3. */
 uint32_t qubathimi_locate(uint32_t sheet, uint32_t *scale, uint32_t *row, uint32_t *column);
 
 /* The sheet in a row and a column of a scale, counted from 0. Refusals: 2; 6 for a row or a column off the grid. */
@@ -132,20 +138,22 @@ uint32_t qubathimi_write_label(uint32_t sheet, uint8_t *room, size_t length, uin
 
 /* ---- Catalogue lines: a label, or a label, a space and a name; without the line's end ---- */
 
-/* The sheet of a line. Refusals: 4; 5; 17; 16. */
+/* The sheet of a line, and whether and why it is refused: the next two do not say that. Refusals: 4; 5; 17; 16. */
 uint32_t qubathimi_read_line(const uint8_t *line, size_t length, uint64_t *value);
 
 /* Where the parts of a line lie: the label from 0 up to *label, the name from *start up to *end. A name that is absent is empty and at
- * the line's end. Of a refused line all three are 0. No refusal: the result is 0 for every line. */
+ * the line's end. The result is 0 for every line: of one that qubathimi_read_line refuses all three are 0, and *label is 0 of no
+ * other. */
 uint32_t qubathimi_line_parts(const uint8_t *line, size_t length, uint64_t *label, uint64_t *start, uint64_t *end);
 
 /* Where the caption of a line lies: from *start up to *end of the line (*value is QUBATHIMI_IN_LINE) or of the fallback
- * (QUBATHIMI_IN_FALLBACK). It is the line's own name where it has one, otherwise the whole fallback, which may be any bytes; of a
- * refused line it is empty and at the line's start. No refusal: the result is 0 for every line. */
+ * (QUBATHIMI_IN_FALLBACK). It is the line's own name where it has one, otherwise the whole fallback, which may be any bytes. The result
+ * is 0 for every line: of one that qubathimi_read_line refuses the caption is empty and at the line's start, and it is empty in the line
+ * of no other. */
 uint32_t qubathimi_caption(const uint8_t *line, size_t line_length, const uint8_t *fallback, size_t fallback_length, uint64_t *value,
                            uint64_t *start, uint64_t *end);
 
-/* Whether two names are the same: whether their bytes are. */
+/* Whether two names are the same: whether their bytes are. Any bytes may be compared; nothing is refused. */
 bool qubathimi_same_name(const uint8_t *a, size_t a_length, const uint8_t *b, size_t b_length);
 
 /* ---- Shelf lists ---- */

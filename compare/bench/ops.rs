@@ -7,7 +7,10 @@
 use std::hint::black_box;
 use std::time::Instant;
 
+#[path = "../numbers.rs"]
+mod numbers;
 mod sheets;
+use numbers::Numbers;
 use sheets::{LAST_SHEET, LONGEST_LABEL, MOST_SHEETS, SCALES};
 
 const SEED: u64 = 1;
@@ -27,16 +30,6 @@ extern "C" {
 }
 
 // ---- the questions
-
-/// The generator of compare/catalogue.py.
-struct Numbers(u64);
-
-impl Numbers {
-    fn draw(&mut self, low: u64, high: u64) -> u64 {
-        self.0 = self.0.wrapping_mul(6_364_136_223_846_793_005).wrapping_add(1_442_695_040_888_963_407);
-        low + (self.0 >> 33) % (high - low + 1)
-    }
-}
 
 /// A sheet of any of the nine scales, each as likely as the others.
 fn any_sheet(numbers: &mut Numbers) -> u32 {

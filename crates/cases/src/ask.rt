@@ -5,7 +5,7 @@ use crate::sheets;
 use crate::write;
 use crate::write::OUT;
 
-pub fn lines(text: &[u8]) {
+pub(crate) fn lines(text: &[u8]) {
     let mut start = 0;
     let mut i = 0;
     while i < text.len() {

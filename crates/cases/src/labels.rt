@@ -11,15 +11,15 @@ use label::writing::label_length;
 use label::writing::write_label;
 
 // The label is what follows the word and a space.
-pub fn label(s: &[u8]) {
+pub(crate) fn label(s: &[u8]) {
     reading(OUT, bytes_from(s, 6));
 }
 
-pub fn reading(to: u64, bytes: &[u8]) -> u64 {
+pub(crate) fn reading(to: u64, bytes: &[u8]) -> u64 {
     write::found(to, read_label(bytes))
 }
 
-pub fn lent(s: &[u8]) {
+pub(crate) fn lent(s: &[u8]) {
     writing(OUT, read::small(s, 1), read::size(s, 2));
 }
 
@@ -43,7 +43,7 @@ fn shown(to: u64, n: usize, places: &[u8]) -> u64 {
 }
 
 // A sum over the sheets from the first to the last, each so far from the one before.
-pub fn every(s: &[u8]) {
+pub(crate) fn every(s: &[u8]) {
     write::number(
         OUT,
         swept(read::small(s, 1), read::small(s, 2), read::small(s, 3)),

@@ -23,12 +23,12 @@ const FEW: usize = 64;
 // Each of the 256 in each place of a question's bytes.
 const CHANGES: usize = 131072;
 
-pub fn groups(s: &[u8]) {
+pub(crate) fn groups(s: &[u8]) {
     write::number(OUT, number::groups(small(s, 1)) as u64);
 }
 
 // The sheets of the question, in room for so many bytes.
-pub fn pack(s: &[u8]) {
+pub(crate) fn pack(s: &[u8]) {
     let mut sheets = [0u32; MOST];
     let n = size(s, 2);
     given(s, n, &mut sheets);
@@ -36,7 +36,7 @@ pub fn pack(s: &[u8]) {
 }
 
 // Sheets by a rule, one of them another, in room for so many bytes.
-pub fn rule(s: &[u8]) {
+pub(crate) fn rule(s: &[u8]) {
     let mut sheets = [0u32; MOST];
     ruled(small(s, 2), small(s, 3), &mut sheets);
     put(size(s, 5), small(s, 6), &mut sheets);
@@ -140,14 +140,14 @@ fn both(to: u64, bytes: &[u8], size: usize) -> u64 {
     reading(write::comma(labels::reading(to, bytes)), bytes, size)
 }
 
-pub fn bytes(s: &[u8]) {
+pub(crate) fn bytes(s: &[u8]) {
     let mut bytes = [0u8; read::BYTES];
     let n = read::bytes(s, &mut bytes);
     both(OUT, read::front(n, &bytes), size(s, 1));
 }
 
 // Every beginning of a list, the shortest first.
-pub fn heads(s: &[u8]) {
+pub(crate) fn heads(s: &[u8]) {
     let mut bytes = [0u8; read::BYTES];
     let n = read::bytes(s, &mut bytes);
     beginnings(read::front(n, &bytes), size(s, 1));
@@ -163,7 +163,7 @@ fn beginnings(bytes: &[u8], size: usize) {
 }
 
 // A sum over what is read when each byte in turn is changed to each of the 256.
-pub fn vary(s: &[u8]) {
+pub(crate) fn vary(s: &[u8]) {
     let mut bytes = [0u8; read::BYTES];
     let n = read::bytes(s, &mut bytes);
     write::number(OUT, changes(n, bytes, size(s, 1)));
@@ -198,7 +198,7 @@ fn with_change(
 }
 
 // A sum over the sets of fewer than so many sheets by a rule.
-pub fn many(s: &[u8]) {
+pub(crate) fn many(s: &[u8]) {
     let mut sheets = [0u32; MOST];
     ruled(small(s, 1), small(s, 2), &mut sheets);
     write::number(OUT, sets(size(s, 3), &sheets));

@@ -1,5 +1,5 @@
 // Puts the questions of standard input to the library, line by line, and writes a line for each: the question
-// and the answer. The input is `stdin`, and what must come out is `stdout`: compare/cases.py has written both
+// and the answer. The input is `stdin`, and what must come out is `stdout`: compare/cases.rs writes the answers
 // from the definition alone, and says what a question looks like.
 mod ask;
 mod labels;

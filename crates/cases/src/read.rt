@@ -3,7 +3,7 @@ use crate::part::bytes_before;
 use std::num::wrapping_sub_u64;
 
 // How many bytes a question may have.
-pub const BYTES: usize = 512;
+pub(crate) const BYTES: usize = 512;
 
 // A number as it stands in a question: whether it has a minus, and its digits.
 struct Digits {
@@ -44,17 +44,17 @@ fn with_byte(value: Digits, b: u8) -> Digits {
 }
 
 // The same as a sheet, a scale, a row, a column, a count or a size; 0 for a number that is too large.
-pub fn small(s: &[u8], spaces: usize) -> u32 {
+pub(crate) fn small(s: &[u8], spaces: usize) -> u32 {
     let n = number(s, spaces);
     let size = n.size;
     if size > 4294967295 { 0 } else { size as u32 }
 }
 
-pub fn size(s: &[u8], spaces: usize) -> usize {
+pub(crate) fn size(s: &[u8], spaces: usize) -> usize {
     small(s, spaces) as usize
 }
 
-pub fn signed(s: &[u8], spaces: usize) -> i64 {
+pub(crate) fn signed(s: &[u8], spaces: usize) -> i64 {
     let n = number(s, spaces);
     if n.minus {
         joined(true, wrapping_sub_u64(n.size, 1))
@@ -76,7 +76,7 @@ fn joined(minus: bool, n: u64) -> i64 {
 }
 
 // The bytes behind the last space, two hexadecimal digits each, and how many they are.
-pub fn bytes(s: &[u8], places: &mut [u8; BYTES]) -> usize {
+pub(crate) fn bytes(s: &[u8], places: &mut [u8; BYTES]) -> usize {
     let mut digits: usize = 0;
     let mut i = 0;
     while i < s.len() {
@@ -92,7 +92,7 @@ pub fn bytes(s: &[u8], places: &mut [u8; BYTES]) -> usize {
 }
 
 // The first so many of them.
-pub fn front(n: usize, places: &[u8; BYTES]) -> &[u8] {
+pub(crate) fn front(n: usize, places: &[u8; BYTES]) -> &[u8] {
     bytes_before(places, n)
 }
 

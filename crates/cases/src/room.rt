@@ -5,29 +5,29 @@ use crate::write;
 use refusal::Laid;
 
 // Stands in every place of room for bytes before the question. No label has this byte.
-pub const MARK: u8 = 238;
+pub(crate) const MARK: u8 = 238;
 
 // The same in room for sheets. No sheet has this number.
-pub const NO_SHEET: u32 = 4294967295;
+pub(crate) const NO_SHEET: u32 = 4294967295;
 
 // More bytes than any list has.
-pub const BYTES: usize = 9000;
+pub(crate) const BYTES: usize = 9000;
 
 // More sheets than any list has.
-pub const SHEETS: usize = 4200;
+pub(crate) const SHEETS: usize = 4200;
 
 // Of more bytes or sheets than this only the sum is written.
 const LISTED: usize = 40;
 
 // So many places of room.
-pub fn bytes(s: &mut [u8], size: usize) -> &mut [u8] {
+pub(crate) fn bytes(s: &mut [u8], size: usize) -> &mut [u8] {
     if size > s.len() {
         return s;
     }
     &mut s[0..size]
 }
 
-pub fn sheets(s: &mut [u32], size: usize) -> &mut [u32] {
+pub(crate) fn sheets(s: &mut [u32], size: usize) -> &mut [u32] {
     if size > s.len() {
         return s;
     }
@@ -35,7 +35,7 @@ pub fn sheets(s: &mut [u32], size: usize) -> &mut [u32] {
 }
 
 // How many items were laid.
-pub fn count(l: Laid) -> usize {
+pub(crate) fn count(l: Laid) -> usize {
     match l {
         Laid::Items(n) => n,
         Laid::Refused(_) => 0,
@@ -43,7 +43,7 @@ pub fn count(l: Laid) -> usize {
 }
 
 // The first so many bytes in hexadecimal, and how many of the others keep their mark.
-pub fn show_bytes(to: u64, n: usize, places: &[u8]) -> u64 {
+pub(crate) fn show_bytes(to: u64, n: usize, places: &[u8]) -> u64 {
     let s = bytes_before(places, n);
     if n > LISTED {
         return kept_bytes(write::named(to, b" sum", digits(write::SUM, s)), n, places);
@@ -62,7 +62,7 @@ fn digits(to: u64, s: &[u8]) -> u64 {
 }
 
 // How many places behind the first so many hold the mark.
-pub fn kept_bytes(to: u64, n: usize, places: &[u8]) -> u64 {
+pub(crate) fn kept_bytes(to: u64, n: usize, places: &[u8]) -> u64 {
     let mut held: u64 = 0;
     let mut i = n;
     while i < places.len() {
@@ -75,7 +75,7 @@ pub fn kept_bytes(to: u64, n: usize, places: &[u8]) -> u64 {
 }
 
 // The first so many sheets, and how many of the other places keep their mark.
-pub fn show_sheets(to: u64, n: usize, places: &[u32]) -> u64 {
+pub(crate) fn show_sheets(to: u64, n: usize, places: &[u32]) -> u64 {
     let s = sheets_before(places, n);
     if n > LISTED {
         return kept_sheets(write::named(to, b" sum", listed(write::SUM, s)), n, places);

@@ -17,20 +17,20 @@ use division::sheet;
 use division::table::Scale;
 
 // Width and height in metres, first and last sheet; and the last scale and the last sheet of all.
-pub fn table(s: &[u8]) {
+pub(crate) fn table(s: &[u8]) {
     let scale = Scale(small(s, 1));
     let t = write::small(write::small(OUT, scale.width()), scale.height());
     let u = write::small(write::small(t, scale.first()), scale.last());
     write::small(write::small(u, Scale::LAST), Scale::LAST_SHEET);
 }
 
-pub fn number(s: &[u8]) {
+pub(crate) fn number(s: &[u8]) {
     let n = small(s, 1);
     write::block(told(OUT, n), relations::neighbours(n));
 }
 
 // Of a sheet: place, edges and parent, and what is found at the place and at the upper left corner.
-pub fn told(to: u64, n: u32) -> u64 {
+pub(crate) fn told(to: u64, n: u32) -> u64 {
     let t = located(to, sheet::locate(n));
     let scale = Scale::of(n);
     let u = corners(write::comma(t), scale.0, sheet::corners_of(n));
@@ -65,14 +65,14 @@ fn edges(to: u64, scale: u32, e: Edges) -> u64 {
     write::found(u, sheet::sheet_at(scale, e.west, e.north))
 }
 
-pub fn at(s: &[u8]) {
+pub(crate) fn at(s: &[u8]) {
     write::found(
         OUT,
         sheet::sheet_at(small(s, 1), signed(s, 2), signed(s, 3)),
     );
 }
 
-pub fn on(s: &[u8]) {
+pub(crate) fn on(s: &[u8]) {
     let place = Place {
         row: small(s, 2),
         column: small(s, 3),
@@ -80,11 +80,11 @@ pub fn on(s: &[u8]) {
     write::found(OUT, sheet::sheet_on(small(s, 1), place));
 }
 
-pub fn down(s: &[u8]) {
+pub(crate) fn down(s: &[u8]) {
     write::found(OUT, relations::child(small(s, 1), small(s, 2), small(s, 3)));
 }
 
-pub fn step(s: &[u8]) {
+pub(crate) fn step(s: &[u8]) {
     write::found(
         OUT,
         relations::step(small(s, 1), signed(s, 2), signed(s, 3)),
@@ -92,7 +92,7 @@ pub fn step(s: &[u8]) {
 }
 
 // East and south.
-pub fn from(s: &[u8]) {
+pub(crate) fn from(s: &[u8]) {
     match relations::offset(small(s, 1), small(s, 2)) {
         Apart::By(o) => {
             write::signed(write::signed(OUT, o.east), o.south);
@@ -104,7 +104,7 @@ pub fn from(s: &[u8]) {
 }
 
 // The cover in room for so many sheets.
-pub fn cover(s: &[u8]) {
+pub(crate) fn cover(s: &[u8]) {
     let window = Edges {
         west: signed(s, 3),
         east: signed(s, 4),

@@ -8,12 +8,12 @@ use refusal::Refusal;
 use shelf::reading::Ended;
 use std::num::wrapping_add_u64;
 
-pub const OUT: u64 = 0;
+pub(crate) const OUT: u64 = 0;
 
 // A sum into which nothing was written yet.
-pub const SUM: u64 = 1;
+pub(crate) const SUM: u64 = 1;
 
-pub fn text(to: u64, s: &[u8]) -> u64 {
+pub(crate) fn text(to: u64, s: &[u8]) -> u64 {
     if to == OUT {
         io::write_all(STDOUT_FILENO, s);
         return OUT;
@@ -37,7 +37,7 @@ fn mixed(sum: u64, b: u8) -> u64 {
     (sum % MODULUS * 31 + b as u64) % MODULUS + 1
 }
 
-pub fn comma(to: u64) -> u64 {
+pub(crate) fn comma(to: u64) -> u64 {
     text(to, b",")
 }
 
@@ -47,22 +47,22 @@ fn decimal(to: u64, n: u64) -> u64 {
     text(to, &digits[..k])
 }
 
-pub fn hexadecimal(to: u64, b: u8) -> u64 {
+pub(crate) fn hexadecimal(to: u64, b: u8) -> u64 {
     let mut digits = [0u8; 16];
     let k = io::hex(b as u64, 2, &mut digits);
     text(to, &digits[..k])
 }
 
 // A number is written with a space in front.
-pub fn number(to: u64, n: u64) -> u64 {
+pub(crate) fn number(to: u64, n: u64) -> u64 {
     decimal(text(to, b" "), n)
 }
 
-pub fn small(to: u64, n: u32) -> u64 {
+pub(crate) fn small(to: u64, n: u32) -> u64 {
     number(to, n as u64)
 }
 
-pub fn named(to: u64, name: &[u8], n: u64) -> u64 {
+pub(crate) fn named(to: u64, name: &[u8], n: u64) -> u64 {
     number(text(to, name), n)
 }
 
@@ -80,7 +80,7 @@ fn split_of(x: i64) -> Split {
     }
 }
 
-pub fn signed(to: u64, x: i64) -> u64 {
+pub(crate) fn signed(to: u64, x: i64) -> u64 {
     match split_of(x) {
         Split::Plus(n) => number(to, n),
         Split::Minus(n) => decimal(text(to, b" -"), wrapping_add_u64(n, 1)),
@@ -88,27 +88,27 @@ pub fn signed(to: u64, x: i64) -> u64 {
 }
 
 // The refusal's number, and the room needed where it carries one.
-pub fn refused(to: u64, r: Refusal) -> u64 {
+pub(crate) fn refused(to: u64, r: Refusal) -> u64 {
     let n = r.numbered();
     let t = named(to, b" refused", n.0 as u64);
     if n.2 { number(t, n.1 as u64) } else { t }
 }
 
-pub fn found(to: u64, f: Found) -> u64 {
+pub(crate) fn found(to: u64, f: Found) -> u64 {
     match f {
         Found::Sheet(n) => small(to, n),
         Found::Refused(r) => refused(to, r),
     }
 }
 
-pub fn laid(to: u64, l: Laid) -> u64 {
+pub(crate) fn laid(to: u64, l: Laid) -> u64 {
     match l {
         Laid::Items(n) => number(to, n as u64),
         Laid::Refused(r) => refused(to, r),
     }
 }
 
-pub fn ended(to: u64, e: Ended) -> u64 {
+pub(crate) fn ended(to: u64, e: Ended) -> u64 {
     match e {
         Ended::Whole => text(to, b" whole"),
         Ended::Refused(r) => refused(to, r),
@@ -131,7 +131,7 @@ fn row(to: u64, of: [Neighbour; 3]) -> u64 {
 }
 
 // Rows from the north.
-pub fn block(to: u64, of: [[Neighbour; 3]; 3]) -> u64 {
+pub(crate) fn block(to: u64, of: [[Neighbour; 3]; 3]) -> u64 {
     let north = of[0];
     let middle = of[1];
     let south = of[2];

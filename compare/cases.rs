@@ -1,0 +1,372 @@
+//! Writes down what compare/paper.rs answers: to the questions of crates/cases, and for the catalogues of samples/. compare/cases builds
+//! and runs it, in the repository's folder.
+//!
+//!     cases                      writes crates/cases/stdout, and the rows beside each catalogue in samples/, anew
+//!     cases check                says which of them are not so
+//!     cases ask                  the questions on standard input with their answers
+//!     cases rows                 the rows of the catalogue on standard input
+//!     cases lines COUNT SEED     a catalogue of so many lines, nine in ten of them good (compare/lines.rs)
+//!
+//! A line of crates/cases/stdin is a question: a word, of which crates/cases reads the first letter, and what follows. Sheets are told by
+//! their numbers, points and edges in millimetres, and bytes in hexadecimal. The line of crates/cases/stdout is the question, a colon and
+//! the answer. A refusal is told by its number, and what it carries. Of more than forty bytes or sheets only the sum is told, and a sum is
+//! always one over the bytes that would be written.
+//!
+//!     table 3                   of the scale: width and height in metres, first and last sheet; and the last scale and
+//!                               the last sheet of all
+//!     number 344                of the sheet: scale, row and column, and the sheet found there; west, east, south and
+//!                               north, and the sheet found at the upper left corner; parent; and the neighbours by rows
+//!                               from the north, a hyphen for none
+//!     at 3 500000000 5000000000 the scale's sheet that owns the point E, N
+//!     on 3 8 10                 the scale's sheet in a row and a column
+//!     down 344 4 3              the sheet's child at a scale, by its number
+//!     step 344 1 -1             the sheet so many columns east and rows south
+//!     from 344 364              how many columns east and rows south the second sheet lies from the first
+//!     cover 8 4 w e s n         in room for so many sheets, those of the scale that cover the window: the count, the
+//!                               sheets, and how many places keep their mark
+//!     every 0 23 1              of the sheets from the first to the last by so many, a sum over what `number`, but for
+//!                               the neighbours, and `write` in room of 20 bytes tell of each
+//!     label 50-109-11           the sheet of the label, which is all of the line after the first space
+//!     write 344 9               the length of the sheet's label; in room of so many bytes the length written, the label,
+//!                               how many bytes keep their mark, and the sheet read back from what was written
+//!     groups 344                the groups that the number takes in a list
+//!     pack 8 3 0 344 7953173    the length of the list of so many sheets; in room of so many bytes the length written,
+//!                               the list, and how many bytes keep their mark; where it was written, what is read in room
+//!                               for just these sheets: from the list, from the list without its last byte, from the list
+//!                               and the byte behind it in the room, and from the list in room for a sheet less
+//!     rule 9000 0 1 4096        the same for sheets by a rule, told by the first, the step and the count; beyond 32 bits
+//!                               they start again from 0
+//!     rule 9000 0 1 4096 7 5    the same with another number in a place, here 5 in the seventh
+//!     many 0 1 60               of the sets of 0 to 59 sheets by a rule, told by the first and the step, a sum over what
+//!                               `rule` in room of 200 bytes tells of each
+//!     heads 3 0300d702bc        what is read in room for so many sheets from every beginning of the list, from no byte
+//!                               to all: how it ended, how many sheets were placed, these, and how many places keep their
+//!                               mark
+//!     bytes 3 0300d702bc        what is read from the bytes as a label, and as a list in room for so many sheets
+//!     vary 3 0300d702bc         a sum over what `bytes` tells when each byte in turn is changed to each of the 256
+//!
+//! The questions that are stored there try, beside the examples: every border by one before, on and behind it (the area's and the sheets'
+//! edges by a millimetre, the grids' ends, each scale's first and last sheet, each field's range, each length of a number in a list, room
+//! that just is enough, 4 096 and 4 097); extremes of 32 and 64 bits, and numbers that would look right if they lost their upper bits;
+//! numbers that are no scale or no sheet; labels as the sources print them, with each kind of fault, and with strange bytes; lists that
+//! are cut, badly written, too long or wrongly counted; two faults at once, for the order of refusals; and some by chance.
+//!
+//! The lines of compare/examples.txt are document 01's examples, question and answer written out by hand: these answers are not asked of
+//! the paper, but must be its own.
+
+mod lines;
+mod numbers;
+mod paper;
+
+use numbers::Numbers;
+use paper::{scale_facts, scale_of, Answer, Division, Frame, Refusal, LAST_SHEET};
+use std::collections::{HashMap, HashSet};
+use std::fmt::Display;
+use std::fs;
+use std::io::{self, Read, Write};
+use std::process::exit;
+
+const QUESTIONS: &str = "crates/cases/stdin";
+const ANSWERS: &str = "crates/cases/stdout";
+const EXAMPLES: &str = "compare/examples.txt";
+const SAMPLES: &str = "samples";
+
+/// As much as crates/cases reads.
+const MOST: usize = 256 * 1024;
+/// What stands in every byte of lent room before a question.
+const MARK: u8 = 238;
+/// Of more bytes or sheets than this only the sum is told.
+const LISTED: usize = 40;
+/// Room for each label, and for each list, in a sum over many.
+const LABEL_ROOM: usize = 20;
+const LIST_ROOM: usize = 200;
+
+fn stop(what: impl Display) -> ! {
+    eprintln!("compare/cases: {what}");
+    exit(1)
+}
+
+// ---- Answers in writing ----
+
+fn refused(refusal: Refusal) -> String {
+    match refusal.carries {
+        Some(value) => format!("refused {} {value}", refusal.number),
+        None => format!("refused {}", refusal.number),
+    }
+}
+
+fn told<T: Display>(answer: Answer<T>) -> String {
+    answer.map_or_else(refused, |value| value.to_string())
+}
+
+fn spaced<T: Display>(parts: impl IntoIterator<Item = T>) -> String {
+    parts.into_iter().map(|part| part.to_string()).collect::<Vec<_>>().join(" ")
+}
+
+/// A sum over the bytes of some texts, in which every byte and its place count.
+fn summed(texts: impl IntoIterator<Item = String>) -> u64 {
+    const MODULUS: u64 = 1_000_000_007;
+    texts.into_iter().fold(1, |sum, text| text.bytes().fold(sum, |sum, byte| (sum % MODULUS * 31 + byte as u64) % MODULUS + 1))
+}
+
+/// The sheets in room for so many, and how many places keep their mark.
+fn listed(sheets: &[u32], room: usize) -> String {
+    let text: String = sheets.iter().map(|sheet| format!(" {sheet}")).collect();
+    let shown = if sheets.len() > LISTED { format!(" sum {}", summed([text])) } else { text };
+    format!("{shown} kept {}", room - sheets.len())
+}
+
+fn hexadecimal(bytes: &[u8]) -> String {
+    bytes.iter().map(|byte| format!("{byte:02x}")).collect()
+}
+
+/// The sheets of a rule: the first, and each later one so far from the one before, in 32 bits.
+fn ruled(first: u32, step: u32, count: usize) -> Vec<u32> {
+    (0..count as u32).map(|k| first.wrapping_add(step.wrapping_mul(k))).collect()
+}
+
+struct Paper(Division);
+
+impl Paper {
+    fn table(&self, scale: u32) -> String {
+        let row = scale_facts(scale).map(|facts| [facts.width as u32, facts.height as u32, facts.first, facts.first + facts.sheets - 1]);
+        format!("{} 9 {LAST_SHEET}", spaced(row.unwrap_or([0; 4])))
+    }
+
+    /// Place and the sheet found there, edges and the sheet found at the upper left corner, and parent.
+    fn sheet(&self, sheet: u32) -> String {
+        let place = self.0.place(sheet).map(|place| {
+            let found = self.0.sheet_on(place.scale, place.row as i128, place.column as i128);
+            format!("{} {} {} {}", place.scale, place.row, place.column, told(found))
+        });
+        let edges = self.0.frame(sheet).map(|frame| {
+            let found = scale_of(sheet).and_then(|scale| self.0.sheet_of_point(scale, frame.west, frame.north));
+            format!("{} {} {} {} {}", frame.west, frame.east, frame.south, frame.north, told(found))
+        });
+        format!("{}, {}, {}", told(place), told(edges), told(self.0.parent(sheet)))
+    }
+
+    /// The same, and the three rows of neighbours.
+    fn number(&self, sheet: u32) -> String {
+        let row = |row: &[Option<u32>; 3]| spaced(row.map(|place| place.map_or("-".to_string(), |sheet| sheet.to_string())));
+        let [north, middle, south] = self.0.neighbours(sheet);
+        format!("{}, {}, {}, {}", self.sheet(sheet), row(&north), row(&middle), row(&south))
+    }
+
+    fn cover(&self, room: usize, scale: u32, window: Frame) -> String {
+        match self.0.cover(scale, window, room) {
+            Ok(sheets) => format!("{}{}", sheets.len(), listed(&sheets, room)),
+            Err(refusal) => format!("{} kept {room}", refused(refusal)),
+        }
+    }
+
+    fn label(&self, label: &[u8]) -> String {
+        told(self.0.read_label(label))
+    }
+
+    fn write_label(&self, sheet: u32, room: usize) -> String {
+        let length = told(self.0.label_length(sheet));
+        match self.0.write_label(sheet, room) {
+            Ok(label) => {
+                let text = String::from_utf8_lossy(label.text());
+                format!("{length}, {} {text} kept {} {}", text.len(), room - text.len(), self.label(label.text()))
+            }
+            Err(refusal) => format!("{length}, {}  kept {room} {}", refused(refusal), self.label(b"")),
+        }
+    }
+
+    fn every(&self, first: u32, last: u32, far: u32) -> String {
+        let sheets = (first as u64..=last as u64).step_by(far as usize);
+        let text = |sheet: u64| format!(" {} {}", self.sheet(sheet as u32), self.write_label(sheet as u32, LABEL_ROOM));
+        summed(sheets.map(text)).to_string()
+    }
+
+    fn read_list(&self, list: &[u8], room: usize) -> String {
+        let (placed, ended) = self.0.read_list(list, room);
+        let ended = told(ended.map(|()| "whole"));
+        format!("from {} in {room} {ended} placed {}{}", list.len(), placed.len(), listed(&placed, room))
+    }
+
+    fn write_list(&self, sheets: &[u32], room: usize) -> String {
+        let length = told(self.0.list_length(sheets));
+        let list = match self.0.write_list(sheets, room) {
+            Ok(list) => list,
+            Err(refusal) => return format!("{length}, {}  kept {room}", refused(refusal)),
+        };
+        let (count, long) = (sheets.len(), list.len());
+        let shown = if long > LISTED { format!("sum {}", summed([hexadecimal(&list)])) } else { hexadecimal(&list) };
+        let mut parts = vec![format!("{length}, {long} {shown} kept {}", room - long)];
+        parts.push(self.read_list(&list, count));
+        parts.push(self.read_list(&list[..long - 1], count));
+        if long < room {
+            parts.push(self.read_list(&[&list[..], &[MARK]].concat(), count));
+        }
+        if count > 0 {
+            parts.push(self.read_list(&list, count - 1));
+        }
+        parts.join(" ")
+    }
+
+    fn many(&self, first: u32, step: u32, below: usize) -> String {
+        summed((0..below).map(|count| format!(" {}", self.write_list(&ruled(first, step, count), LIST_ROOM)))).to_string()
+    }
+
+    fn bytes(&self, room: usize, bytes: &[u8]) -> String {
+        format!("{}, {}", self.label(bytes), self.read_list(bytes, room))
+    }
+
+    fn vary(&self, room: usize, bytes: &[u8]) -> String {
+        let changed = |k: usize| {
+            let mut bytes = bytes.to_vec();
+            bytes[k / 256] = (k % 256) as u8;
+            format!(" {}", self.bytes(room, &bytes))
+        };
+        summed((0..256 * bytes.len()).map(changed)).to_string()
+    }
+
+    /// The answer to a question; none where it is no question.
+    fn answer(&self, question: &str) -> Option<String> {
+        let (word, rest) = question.split_once(' ')?;
+        if word == "label" {
+            return Some(self.label(rest.as_bytes()));
+        }
+        if let "heads" | "bytes" | "vary" = word {
+            let (room, digits) = rest.split_once(' ')?;
+            let room = room.parse().ok()?;
+            let places = (0..digits.len()).step_by(2);
+            let bytes: Vec<u8> = places.map(|k| u8::from_str_radix(digits.get(k..k + 2)?, 16).ok()).collect::<Option<_>>()?;
+            return Some(match word {
+                "heads" => spaced((0..=bytes.len()).map(|cut| self.read_list(&bytes[..cut], room))),
+                "bytes" => self.bytes(room, &bytes),
+                _ => self.vary(room, &bytes),
+            });
+        }
+        let numbers: Vec<i64> = rest.split(' ').map(|number| number.parse().ok()).collect::<Option<_>>()?;
+        Some(match (word, &numbers[..]) {
+            ("table", &[scale]) => self.table(scale as u32),
+            ("number", &[sheet]) => self.number(sheet as u32),
+            ("at", &[scale, e, n]) => told(self.0.sheet_of_point(scale as u32, e, n)),
+            ("on", &[scale, row, column]) => told(self.0.sheet_on(scale as u32, row as i128, column as i128)),
+            ("down", &[sheet, scale, number]) => told(self.0.child(sheet as u32, scale as u32, number as u32)),
+            ("step", &[sheet, east, south]) => told(self.0.step(sheet as u32, east, south)),
+            ("from", &[a, b]) => told(self.0.offset(a as u32, b as u32).map(|(east, south)| spaced([east, south]))),
+            ("cover", &[room, scale, west, east, south, north]) => {
+                self.cover(room as usize, scale as u32, Frame { west, east, south, north })
+            }
+            ("every", &[first, last, far]) => self.every(first as u32, last as u32, far as u32),
+            ("write", &[sheet, room]) => self.write_label(sheet as u32, room as usize),
+            ("groups", &[number]) => paper::groups(number as u32).to_string(),
+            ("pack", &[room, count, ref sheets @ ..]) if sheets.len() == count as usize => {
+                self.write_list(&sheets.iter().map(|&sheet| sheet as u32).collect::<Vec<_>>(), room as usize)
+            }
+            ("rule", &[room, first, step, count, ref other @ ..]) => {
+                let mut sheets = ruled(first as u32, step as u32, count as usize);
+                match *other {
+                    [] => {}
+                    [place, number] => *sheets.get_mut(place as usize - 1)? = number as u32,
+                    _ => return None,
+                }
+                self.write_list(&sheets, room as usize)
+            }
+            ("many", &[first, step, below]) => self.many(first as u32, step as u32, below as usize),
+            _ => return None,
+        })
+    }
+
+    // ---- The files ----
+
+    /// What crates/cases must print: each question with its answer.
+    fn answers(&self) -> String {
+        let (questions, examples) = (text_of(QUESTIONS), text_of(EXAMPLES));
+        if questions.len() > MOST {
+            stop(format!("{QUESTIONS} has more than {MOST} bytes"));
+        }
+        let mut by_hand: HashMap<&str, &str> = HashMap::new();
+        for line in examples.lines().filter(|line| !line.is_empty() && !line.starts_with('#')) {
+            let Some((question, answer)) = line.split_once(": ") else { stop(format!("{EXAMPLES}: no answer: {line}")) };
+            by_hand.insert(question, answer);
+        }
+        let mut asked = HashSet::new();
+        let mut lines = String::new();
+        for question in questions.lines() {
+            if !asked.insert(question) {
+                stop(format!("{QUESTIONS}: asked twice: {question}"));
+            }
+            let Some(own) = self.answer(question) else { stop(format!("{QUESTIONS}: no question: {question}")) };
+            let answer = by_hand.remove(question).unwrap_or(&own);
+            if answer != own {
+                stop(format!("{EXAMPLES} has {question}: {answer}\nbut the paper says {own}"));
+            }
+            lines += &format!("{question}: {answer}\n");
+        }
+        if let Some(question) = by_hand.keys().next() {
+            stop(format!("{EXAMPLES}: not asked in {QUESTIONS}: {question}"));
+        }
+        lines
+    }
+
+    /// Each file that is written, and what it must have in it.
+    fn files(&self) -> Vec<(String, String)> {
+        let mut files = vec![(ANSWERS.to_string(), self.answers())];
+        let listed = fs::read_dir(SAMPLES).unwrap_or_else(|error| stop(format!("{SAMPLES}: {error}")));
+        let mut names: Vec<String> = listed.flatten().map(|entry| entry.file_name().to_string_lossy().into_owned()).collect();
+        names.sort();
+        for name in names.iter().filter_map(|name| name.strip_suffix(".txt")) {
+            let catalogue = bytes_of(&format!("{SAMPLES}/{name}.txt"));
+            files.push((format!("{SAMPLES}/{name}.rows"), self.0.rows(&catalogue)));
+        }
+        files
+    }
+}
+
+fn bytes_of(path: &str) -> Vec<u8> {
+    fs::read(path).unwrap_or_else(|error| stop(format!("{path}: {error}")))
+}
+
+fn text_of(path: &str) -> String {
+    String::from_utf8(bytes_of(path)).unwrap_or_else(|_| stop(format!("{path}: no UTF-8")))
+}
+
+fn input() -> Vec<u8> {
+    let mut bytes = Vec::new();
+    io::stdin().read_to_end(&mut bytes).unwrap_or_else(|error| stop(error));
+    bytes
+}
+
+fn put(bytes: &[u8]) {
+    io::stdout().write_all(bytes).unwrap_or_else(|error| stop(error));
+}
+
+fn main() {
+    let words: Vec<String> = std::env::args().skip(1).collect();
+    let paper = || Paper(Division::lay_out());
+    match words.iter().map(String::as_str).collect::<Vec<_>>()[..] {
+        [] => {
+            for (path, text) in paper().files() {
+                fs::write(&path, text).unwrap_or_else(|error| stop(format!("{path}: {error}")));
+            }
+        }
+        ["check"] => {
+            for (path, text) in paper().files() {
+                if bytes_of(&path) != text.as_bytes() {
+                    stop(format!("{path} is not as compare/cases writes it"));
+                }
+            }
+        }
+        ["ask"] => {
+            let questions = String::from_utf8(input()).unwrap_or_else(|_| stop("no UTF-8"));
+            let paper = paper();
+            for question in questions.lines() {
+                put(format!("{question}: {}\n", paper.answer(question).unwrap_or("no such question".to_string())).as_bytes());
+            }
+        }
+        ["rows"] => put(paper().0.rows(&input()).as_bytes()),
+        ["lines", count, seed] => {
+            let (Ok(count), Ok(seed)) = (count.parse::<usize>(), seed.parse()) else { stop("lines COUNT SEED") };
+            let mut numbers = Numbers(seed);
+            let lines: String = (0..count).map(|_| lines::any_line(&mut numbers) + "\n").collect();
+            put(lines.as_bytes());
+        }
+        _ => stop("it takes nothing, or check, ask, rows, or lines COUNT SEED"),
+    }
+}
