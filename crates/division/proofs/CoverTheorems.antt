@@ -1,5 +1,5 @@
 -- The cover of a window has exactly the sheets that share a point with it, each once, in the order named. Assumes nothing.
-use mathlib.Core.Path.{_≡_, ap, _∙_, subst}
+use mathlib.Core.Path.{_≡_, ap, ap₂, _∙_, subst}
 use mathlib.Core.Bool.{true}
 use mathlib.Core.Logic.{_↔_, ∥∥₁-elim}
 use mathlib.Core.List.{List, map, flatMap, List·Memᴰ, Memᴰ·of-map, Pairwise, Pairwise·nil, Pairwise·cons, Pairwise·imp, pairwise-append, List·Nodup}
@@ -10,11 +10,12 @@ use native.Mathlib.Omega.{arith}
 use borrow.Author.Tests.{lt-ltb}
 use lib.ListN.{length}
 use Rattle.division.specs.declared.Edges.{Edges}
+use Rattle.division.specs.declared.Place.{Place}
 use Rattle.division.specs.declared.cover.Span.{Span}
 use Rattle.division.specs.Words.{_<ᶻ_, from}
 use Rattle.division.specs.Table.{width, height, rows, columns}
 use Rattle.division.specs.Grid.{millimetres, owns, westOf, northOf, edgesOf}
-use Rattle.division.specs.Sheet.{sheetOf, placeOf, readingOrder}
+use Rattle.division.specs.Sheet.{areaIndex, sheetOf, placeOf, readingOrder}
 use Rattle.division.specs.Cover.{columnsIn, rowsIn, block, sheetsIn}
 use Rattle.division.specs.Given.{IsScale, OnGrid, Seen}
 use Rattle.division.specs.Theorems.{Shares}
@@ -100,7 +101,7 @@ module _ {s : ℕ} (h : IsScale s) where
   order-is : (r c : ℕ) → r < rows s → c < columns s → readingOrder (sheetIn s r c) ≡ r * columns s + c
   order-is r c l g =
       let o : OnGrid s (record { row = r; column = c }) = record { scale = h; in-rows = l; in-columns = g } in
-      rw (place-sheet o, scale-sheet o)
+      ap₂ (λ (t : ℕ) (p : Place). areaIndex (columns t) p) (scale-sheet o) (place-sheet o)
 
   row-order : (r left n : ℕ) → r < rows s → left + n ≤ columns s → Pairwise Later (map (sheetIn s r) (from left n))
   unfolding from

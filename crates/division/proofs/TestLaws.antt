@@ -48,8 +48,8 @@ pub after-pos : {a : ℕ} (x : ℤ) → ltZ (pos a) x ≡ true → (p : Plain x)
 after-pos {a} (pos n) e = (record { n = n; is = refl }, ltb-true a n e)
 after-pos (negsuc n) e = let z : _≡_ {A = ℕ} 0 1 = cc in absurd (omega arith)
 
-pub below-pos : (a : ℕ) (x : ℤ) → ltZ (pos a) x ≡ true → leZ (pos 0) x ≡ true
-below-pos a x e = let p = after-pos x e .0 in rw (p .is) (le-leb 0 (p .n) (omega arith))
+pub below : (a b : ℕ) (x : ℤ) → b ≤ a → ltZ (pos a) x ≡ true → leZ (pos b) x ≡ true
+below a b x l e = let p = after-pos x e in rw (p .0 .is) (le-leb b (p .0 .n) (omega (arith, p .1)))
 
 -- the difference of two numbers, the larger first
 pub pos-minus : (a b : ℕ) → b ≤ a → pos a -ℤ pos b ≡ pos (a - b)

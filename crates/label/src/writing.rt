@@ -124,7 +124,8 @@ pub fn label_length(sheet: u32) -> Laid
     if !is_sheet(sheet) {
         return Laid::Refused(Refusal::NoSheet);
     }
-    Laid::Items(text_of(sheet).len)
+    let text = text_of(sheet);
+    Laid::Items(text.len)
 }
 
 // Lays a text into lent room, where it fits.

@@ -4,7 +4,7 @@ use native.Mathlib.Omega.{arith}
 use borrow.Author.Needs.{needs}
 use Rattle.division.specs.Table.{height}
 use Rattle.division.specs.Grid.{millimetres}
-use Rattle.division.proofs.TestLaws.{back, below-pos}
+use Rattle.division.proofs.TestLaws.{back, below}
 use Rattle.division.proofs.TableLaws.{rules}
 use Rattle.division.proofs.GridLaws.{some-height, north, row-in}
 use Rattle.division.proofs.grid.row_at.Statement.{statement}
@@ -19,7 +19,7 @@ millimetres-requires c κs = search needs
 distance-requires : tie.Need-distance-requires
 distance-requires c κs =
     let a = c .before .before in
-    rw (back (a .fits .n)) (record { plain = below-pos 4_570_000_000 (a .args .n) (a .pre .south); rises = a .pre .north })
+    rw (back (a .fits .n)) (record { plain = below 4_570_000_000 0 (a .args .n) (omega arith) (a .pre .south); rises = a .pre .north })
 
 size : (c : tie.After-millimetres) → c .millimetres .result ≡ millimetres (height (c .before .before .args .s))
 size c = rw (c .before .height .ensures) at (c .millimetres .ensures)

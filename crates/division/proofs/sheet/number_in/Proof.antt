@@ -1,24 +1,29 @@
 -- A number in a parent is at most 625. Assumes nothing.
+use Prim.Native.Nat.{_≤_}
 use native.Mathlib.Omega.{arith}
 use borrow.Author.Needs.{needs}
+use Rattle.division.specs.Sheet.{numberIn}
 use Rattle.division.proofs.FamilyLaws.{number-small}
 use Rattle.division.proofs.sheet.number_in.Statement.{statement}
 use Rattle.division.proofs.sheet.number_in.Tie as tie
+
+small : (c : tie.Start) → numberIn (c .args .k) (c .args .p) ≤ 625
+small c = number-small (c .args .p) (c .pre)
 
 rem-result : tie.Need-rem-result
 rem-result c = search needs
 
 mul-result : tie.Need-mul-result
-mul-result c = omega (arith, number-small (c .before .args .p) (c .before .pre))
+mul-result c = omega (arith, small (c .before))
 
 rem-result-2 : tie.Need-rem-result-2
 rem-result-2 c = search needs
 
 add-result : tie.Need-add-result
-add-result c = omega (arith, number-small (c .before .before .args .p) (c .before .before .pre))
+add-result c = omega (arith, small (c .before .before))
 
 add-result-2 : tie.Need-add-result-2
-add-result-2 c = omega (arith, number-small (c .before .before .args .p) (c .before .before .pre))
+add-result-2 c = omega (arith, small (c .before .before))
 
 returns : tie.Need-returns
 returns c = search needs
