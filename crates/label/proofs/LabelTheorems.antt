@@ -13,7 +13,7 @@ use Rattle.refusal.specs.Paper.{answer}
 use Rattle.refusal.proofs.PaperLaws.{passed, found, same-answer}
 use Rattle.division.specs.declared.Place.{Place}
 use Rattle.division.specs.Words.{between, from, keep}
-use Rattle.division.specs.Table.{Made, ofArea, ofScale, table, tableRow, rowsOf, columnsOf, made, isScale}
+use Rattle.division.specs.Table.{Made, ofArea, ofScale, table, tableRow, rowsOf, columnsOf, made}
 use Rattle.division.specs.Sheet.{isSheet, scaleOf, placeOf, sheetOf, parentPlace}
 use Rattle.division.specs.Given.{IsScale, OnGrid}
 use Rattle.division.specs.Theorems.{SameGround}
@@ -30,7 +30,7 @@ use Rattle.label.proofs.FieldLaws.{between-in, count-fields, place-fiel
 use Rattle.label.proofs.LengthLaws.{Short, sizes}
 use Rattle.label.proofs.ByteLaws.{decimal-digits}
 use Rattle.label.proofs.SpellLaws.{digits-free, pieces, pieces-spelt}
-use Rattle.label.proofs.NamedLaws.{Named, named}
+use Rattle.label.proofs.NamedLaws.{named}
 use Rattle.label.proofs.WritingTheorems.{labels-short, labels-plain}
 
 -- ---- what is written is well formed

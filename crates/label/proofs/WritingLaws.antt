@@ -3,7 +3,7 @@ use mathlib.Core.Path.{_≡_, refl, ap, _∙_, subst}
 use mathlib.Core.Bool.{true}
 use mathlib.Core.List.{List, [], _∷_, _++_, flatMap, append-assoc, append-nil}
 use mathlib.Core.Logic.{⊎-elim}
-use Prim.Native.Nat.{ℕ, _+_, _*_, _/_, _%_, _≤_, _<_}
+use Prim.Native.Nat.{ℕ, _+_, _/_, _%_, _≤_, _<_}
 use native.Mathlib.Nat.{mul-pos, mod-lt, zero-add, add-zero, le-refl}
 use native.Mathlib.Numerals.{add-one}
 use native.Mathlib.Omega.{arith}
@@ -16,7 +16,6 @@ use Rattle.division.specs.declared.table.Row.{Row}
 use Rattle.division.specs.Words.{_≤?_}
 use Rattle.division.specs.Table.{Made, made, rows, columns, parentScale, side, parts, codeRow}
 use Rattle.division.specs.Sheet.{placeAt, isSheet, scaleOf, indexOf}
-use Rattle.division.specs.Given.{Parted}
 use Rattle.division.proofs.TestLaws.{le-or-less}
 use Rattle.division.proofs.MadeLaws.{Sound, quot, left-few}
 use Rattle.division.proofs.TableLaws.{rules}

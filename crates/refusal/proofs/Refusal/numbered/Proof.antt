@@ -1,5 +1,5 @@
 -- Each arm is a line of the paper's table, and the arm that is taken is the refusal asked. Assumes nothing.
-use mathlib.Core.Path.{_≡_, refl, sym, ap}
+use mathlib.Core.Path.{_≡_, refl}
 use Prim.Native.Nat.{ℕ}
 use Rattle.refusal.specs.declared.Refusal.{Refusal}
 use Rattle.refusal.specs.declared.Numbered.{Numbered}
