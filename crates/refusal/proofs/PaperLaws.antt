@@ -1,12 +1,13 @@
 -- Answers and cascades on paper: a line that refuses decides, and no two answers are the same on paper. Assumes nothing.
 use mathlib.Core.Path.{_≡_, refl, sym, ap, _∙_}
-use mathlib.Core.Bool.{Bool, true, false, not}
-use mathlib.Core.List.{[], _∷_}
-use Prim.Native.Nat.{ℕ, _-_}
+use mathlib.Core.Bool.{Bool, true, false, cond, not}
+use mathlib.Core.List.{List, [], _∷_}
+use Prim.Native.Nat.{ℕ, _-_, _≤_}
 use native.Mathlib.Omega.{arith}
-use borrow.Author.Tests.{not-true, not-false}
-use lib.Dec.{eqb}
-use lib.ListN.{getD}
+use borrow.Author.Tests.{not-true, not-false, le-leb, leb-true}
+use lib.Dec.{leb, eqb}
+use lib.ListN.{length, getD}
+use Rattle.refusal.specs.Paper.{roomFor, laid}
 use Rattle.refusal.specs.declared.Refusal.{Refusal}
 use Rattle.refusal.specs.declared.Refusal.the-variants.{PointOutside, NoScale, NoSheet, LabelForm, FieldRange, NoSuch, WindowOrder, WindowOutside, TooMany, Room, EndsEarly, BadNumber, PastLast, MoreBytes, NotRising, NameForm, NameScale}
 use Rattle.refusal.specs.declared.Laid.{Laid}
@@ -109,3 +110,42 @@ laid-told = record { back = read Items Refused; again = again }
     again : (a : Laid) → read Items Refused (laidPaper a) ≡ a
     again (Items n) = refl
     again (Refused why) = read-refusal Items Refused why
+
+-- ---- what is answered has passed every line in front of it, and a line that refuses decides
+
+-- an answer is no refusal, and two refusals that are the same have the same number and value
+pub differs : {A : Type 0} {a : A} {n v : ℕ} → answer a ≡ refused n v → ⊥
+differs e = let z : _≡_ {A = ℕ} 0 1 = cc in omega arith
+
+pub same-number : {A : Type 0} {m n v w : ℕ} → _≡_ {A = Paper A} (refused m v) (refused n w) → m ≡ n
+same-number e = cc
+
+pub same-value : {A : Type 0} {m n v w : ℕ} → _≡_ {A = Paper A} (refused m v) (refused n w) → v ≡ w
+same-value e = cc
+
+-- a test alone, and the test for room
+pub passed-test : (n : ℕ) (test : Bool) {u : Unit} → (refuse n unless test) ≡ answer u → test ≡ true
+passed-test n true e = refl
+passed-test n false e = absurd (differs (sym e))
+
+pub passed-room : (needed room : ℕ) {u : Unit} → roomFor needed room ≡ answer u → needed ≤ room
+passed-room needed room e = leb-true needed room (by (leb needed room) e)
+  where
+    by : (test : Bool) {u : Unit {0}} → cond test (answer tt) (refused 10 needed) ≡ answer u → test ≡ true
+    by true e = refl
+    by false e = absurd (differs (sym e))
+
+-- any judge, and what comes after it
+pub passed-judge : {A : Type 0} (p : Paper Unit) (next : Paper A) {a : A} → (p >> next) ≡ answer a → (p ≡ answer tt) × (next ≡ answer a)
+passed-judge (answer fine) next e = (refl, e)
+passed-judge (refused n v) next e = absurd (differs (sym e))
+
+pub judge-refuses : {A : Type 0} {p : Paper Unit} (why : Refusal) (next : Paper A) → p ≡ onPaper why → (p >> next) ≡ onPaper why
+judge-refuses {A} why next e = rw (e, on-paper why .is A, on-paper why .is Unit)
+
+-- items that are laid: all of them, where there is room
+pub laid-fits : (items : List ℕ) {room : ℕ} → length items ≤ room → laid items room ≡ answer items
+laid-fits items {room} h = rw (le-leb (length items) room h)
+
+pub laid-answered : (items : List ℕ) (room : ℕ) {xs : List ℕ} → laid items room ≡ answer xs → (items ≡ xs) × (length items ≤ room)
+laid-answered items room e = let p = passed-judge (roomFor (length items) room) (answer items) e in (same-answer (p .1), passed-room (length items) room (p .0))
