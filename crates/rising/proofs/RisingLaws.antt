@@ -14,15 +14,15 @@ use Rattle.refusal.proofs.PaperLaws.{passed, passed-judge, judge-refuses}
 use Rattle.rising.specs.Rising.{risingFrom}
 
 -- the first number of a list that passes is fine and rises, and the rest passes behind it
-pub record First (judge : ℕ → Paper Unit) (least x : ℕ) (xs : List ℕ) : Type 0 where
+pub record Head (judge : ℕ → Paper Unit) (least x : ℕ) (xs : List ℕ) : Type 0 where
   pub fine : judge x ≡ answer tt
   pub rises : least ≤ x
   pub later : risingFrom judge (x + 1) xs ≡ answer tt
 
 module _ (judge : ℕ → Paper Unit) (least x : ℕ) (xs : List ℕ) where
-  pub first : risingFrom judge least (x ∷ xs) ≡ answer tt → First judge least x xs
+  pub head : risingFrom judge least (x ∷ xs) ≡ answer tt → Head judge least x xs
   unfolding risingFrom
-  first e =
+  head e =
       let p = passed-judge (judge x) _ e in
       let q = passed 15 (leb least x) _ (p .1) in
       record { fine = p .0; rises = leb-true least x (q .0); later = q .1 }

@@ -12,7 +12,7 @@ use lib.ListN.{length, getD, take}
 use Rattle.refusal.specs.Paper.{Paper, answer, refused, refuse_unless_, _>>_}
 use Rattle.refusal.proofs.PaperLaws.{differs}
 use Rattle.rising.specs.Rising.{risingFrom, IsSet, leastAt, Rises, FirstFault}
-use Rattle.rising.proofs.RisingLaws.{first, rising-more}
+use Rattle.rising.proofs.RisingLaws.{head, rising-more}
 
 -- ---- a number in front of a list
 
@@ -50,7 +50,7 @@ module _ (judge : ℕ → Paper Unit) where
 
   pub passes-rises : (least : ℕ) (xs : List ℕ) → risingFrom judge least xs ≡ answer tt → Rises judge least xs
   passes-rises least [] e = record { each = λ i h. absurd (omega arith); rising = λ i h. absurd (omega arith) }
-  passes-rises least (x ∷ xs) e = let f = first judge least x xs e in rises-more judge least x xs (f .fine) (f .rises) (passes-rises (x + 1) xs (f .later))
+  passes-rises least (x ∷ xs) e = let f = head judge least x xs e in rises-more judge least x xs (f .fine) (f .rises) (passes-rises (x + 1) xs (f .later))
 
 -- so it is a set exactly if it passes and is not too long
 module _ (judge : ℕ → Paper Unit) (limit : ℕ) (xs : List ℕ) where
@@ -121,12 +121,12 @@ module _ (judge : ℕ → Paper Unit) where
   pub not-below : (least : ℕ) (xs : List ℕ) → risingFrom judge least xs ≡ answer tt → {x : ℕ} → List·Memᴰ x xs → least ≤ x
   not-below least [] e m = absurd (List·Memᴰ·not-nil m)
   not-below least (y ∷ ys) e m =
-      let f = first judge least y ys e in
+      let f = head judge least y ys e in
       ⊎-elim (λ same. omega (arith, f .rises)) (λ later. omega (arith, f .rises, not-below (y + 1) ys (f .later) later)) (List·Memᴰ·cases-cons m)
 
   at-front : (least y : ℕ) (ys : List ℕ) → risingFrom judge least (y ∷ ys) ≡ answer tt → {x : ℕ} → List·Memᴰ x (y ∷ ys) → y ≤ x
   at-front least y ys e m =
-      ⊎-elim (λ same. omega arith) (λ later. omega (arith, not-below (y + 1) ys (first judge least y ys e .later) later)) (List·Memᴰ·cases-cons m)
+      ⊎-elim (λ same. omega arith) (λ later. omega (arith, not-below (y + 1) ys (head judge least y ys e .later) later)) (List·Memᴰ·cases-cons m)
 
   -- without their common first number
   has-behind : (x : ℕ) (xs ys : List ℕ) → risingFrom judge (x + 1) xs ≡ answer tt → Has (x ∷ xs) (x ∷ ys) → Has xs ys
@@ -139,8 +139,8 @@ module _ (judge : ℕ → Paper Unit) where
   same-list least (x ∷ xs) [] e f h k = absurd (List·Memᴰ·not-nil (h x (List·Memᴰ·head refl)))
   same-list least (x ∷ xs) (y ∷ ys) e f h k =
       let same : y ≡ x = omega (arith, at-front least y ys f (h x (List·Memᴰ·head refl)), at-front least x xs e (k y (List·Memᴰ·head refl))) in
-      let p = first judge least x xs e .later in
-      let q : risingFrom judge (x + 1) ys ≡ answer tt = rw same at (first judge least y ys f .later) in
+      let p = head judge least x xs e .later in
+      let q : risingFrom judge (x + 1) ys ≡ answer tt = rw same at (head judge least y ys f .later) in
       ap₂ (λ z zs. z ∷ zs) (sym same) (same-list (x + 1) xs ys p q (has-behind x xs ys p (rw same at h)) (has-behind x ys xs q (rw same at k)))
 
   -- a rising list is told by its members
