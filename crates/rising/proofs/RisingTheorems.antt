@@ -146,3 +146,7 @@ module _ (judge : ℕ → Paper Unit) where
   -- a rising list is told by its members
   pub one-rising : (least : ℕ) (a b : List ℕ) → risingFrom judge least a ≡ answer tt → risingFrom judge least b ≡ answer tt → ((x : ℕ) → List·Memᴰ x a ↔ List·Memᴰ x b) → a ≡ b
   one-rising least a b e f same = same-list least a b e f (λ x. same x .0) (λ x. same x .1)
+
+-- and so is a set
+pub one-set : (judge : ℕ → Paper Unit) (limit : ℕ) (a b : List ℕ) → IsSet judge limit a → IsSet judge limit b → ((x : ℕ) → List·Memᴰ x a ↔ List·Memᴰ x b) → a ≡ b
+one-set judge limit a b s t same = one-rising judge 0 a b (set-passes judge limit a s) (set-passes judge limit b t) same
