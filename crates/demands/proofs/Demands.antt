@@ -6,7 +6,7 @@ use native.Mathlib.Omega.{arith}
 use borrow.Author.Tests.{le-leb, lt-leb, leb-true, eq-eqb}
 use lib.ListN.{length, take}
 use Rattle.refusal.specs.Paper.{answer, laid}
-use Rattle.refusal.proofs.PaperLaws.{passed, passed-judge}
+use Rattle.refusal.proofs.PaperLaws.{passed-judge, laid-fits, laid-answered}
 use Rattle.division.specs.Words.{_≤?_, _=?_}
 use Rattle.division.specs.Table.{rows, columns, isScale, parentScale, parts, first}
 use Rattle.division.specs.Grid.{area, owns, within}
@@ -25,19 +25,21 @@ use Rattle.label.specs.Label.{labelOf, writeLabel, labelLength}
 use Rattle.label.proofs.FieldLaws.{in-between}
 use Rattle.label.proofs.WritingTheorems.{labels-sized, labels-plain}
 use Rattle.label.proofs.LabelTheorems as label
-use Rattle.shelf.specs.Writing.{listBytes, writeList, listLength}
-use Rattle.shelf.specs.Reading.{readList}
+use Rattle.shelf.specs.Kind.{ofSheets}
+use Rattle.shelf.specs.Writing.{listBytes, writeIn, lengthIn}
+use Rattle.shelf.specs.Reading.{behindIn, readIn, readList}
+use Rattle.shelf.proofs.KindLaws.{sheets-work}
 use Rattle.shelf.proofs.ListTheorems as list
 use Rattle.demands.specs.Demands.{answers, RefusalsNumbered, RoomKept, PlacedKept, CountNeedsRoom, TableAddsUp, EachPointInOneSheet, OutsideInNone, EachSheetHasCorners, SheetIsLocated, LocatedIsSheet, EachLabelReadsBack, AcceptedLabelIsWritten, FirstScalesHaveNone, OtherScalesHaveParent, ChildIsNumbered, EachChildIsThere, ChildHasParent, ParentHasChild, StepGoes, OffsetLeads, StepIsOffset, NeighboursAreAround, RefusedSheetHasNone, Covers, CoverIsWhatShares, EachWindowHasCover, EachSetIsWritten, OnlySetsAreWritten, EachListReadsBack, OneGroundOneSpelling, OneSetOneList, AcceptedListIsWritten, CutEndsEarly}
 use Rattle.demands.proofs.GivesLaws.{test-gives, then-gives, line-gives, read-gives, room-gives, laid-gives, label-gives, line-of-gives, cover-gives, set-gives, number-gives, entries-give}
-use Rattle.demands.proofs.RoomLaws.{fills, laid-fits, laid-same, laid-keeps, line-keeps, then-keeps, list-short, list-enough}
-use Rattle.demands.proofs.SetLaws.{set-passes, passes-set, set-written, written-set, placed-set, placed-fits, all-bytes}
+use Rattle.demands.proofs.RoomLaws.{fills, laid-keeps, line-keeps, then-keeps}
+use Rattle.demands.proofs.ListLaws.{above-needs, needs-above, all-bytes}
 use Rattle.demands.proofs.SheetLaws.{rules, offset-steps, label-written}
 
 -- ==== Demand 1
 
 pub refusals-numbered : RefusalsNumbered
-unfolding sheetAt locate sheetOn cornersOf parent child step walk offset cover writeLabel labelLength writeList listLength readList
+unfolding sheetAt locate sheetOn cornersOf parent child step walk offset cover writeLabel labelLength writeIn lengthIn readIn behindIn
 refusals-numbered = record {
   points = λ s e n. line-gives 2 (isScale s) refl (line-gives 1 (owns area e n) refl answers);
   corners = λ n. line-gives 3 (isSheet n) refl answers;
@@ -55,32 +57,32 @@ refusals-numbered = record {
   labelled = λ n room. line-gives 3 (isSheet n) refl (laid-gives (labelOf n) room refl);
   measured = λ n. line-gives 3 (isSheet n) refl answers;
   lines = line-of-gives refl refl refl refl;
-  lists = λ sheets room. then-gives (set-gives refl refl refl sheets) (laid-gives (listBytes sheets) room refl);
-  sized = λ sheets. then-gives (set-gives refl refl refl sheets) answers;
+  lists = λ sheets room. then-gives (set-gives ofSheets (λ n. test-gives 3 (isSheet n) refl) refl refl sheets) (laid-gives (listBytes sheets) room refl);
+  sized = λ sheets. then-gives (set-gives ofSheets (λ n. test-gives 3 (isSheet n) refl) refl refl sheets) answers;
   reading = λ bytes room.
-      read-gives _ (number-gives refl refl bytes) λ count.
-      read-gives _ (test-gives 12 (count .value ≤? 4_096) refl) λ fine.
-      read-gives _ (room-gives (count .value) room refl) λ fit.
-      entries-give refl refl refl refl (count .value) 0 (count .rest);
+      read-gives _ (number-gives refl refl bytes) λ first.
+      read-gives _ (line-gives 12 (first .value ≤? 4_096) refl answers) λ count.
+      read-gives _ (room-gives count room refl) λ fit.
+      entries-give ofSheets (λ n. test-gives 13 (isSheet n) refl) refl refl refl count 0 (first .rest);
 }
 
 pub room-kept : RoomKept
-unfolding cover writeLabel writeList
+unfolding cover writeLabel writeIn
 room-kept = record {
   covers = λ s w. then-keeps _ (cover-gives {listed = 2 ∷ 7 ∷ 8 ∷ 9 ∷ []} refl refl refl refl s w) refl (laid-keeps (sheetsIn s w));
   labels = λ n. line-keeps 3 (isSheet n) _ refl (laid-keeps (labelOf n));
-  lists = λ sheets. then-keeps _ (set-gives {listed = 9 ∷ 3 ∷ 15 ∷ []} refl refl refl sheets) refl (laid-keeps (listBytes sheets));
+  lists = λ sheets. then-keeps _ (set-gives {listed = 9 ∷ 3 ∷ 15 ∷ []} ofSheets (λ n. test-gives 3 (isSheet n) refl) refl refl sheets) refl (laid-keeps (listBytes sheets));
 }
 
 pub placed-kept : PlacedKept
 placed-kept bytes room told r = record {
   count = r .placed;
-  filled = fills room (readList bytes (length room) .placed) (placed-fits bytes (length room));
-  sheets = placed-set bytes (length room);
+  filled = fills room (readList bytes (length room) .placed) (list.placed-fits sheets-work bytes (length room));
+  sheets = list.placed-set sheets-work bytes (length room);
 }
 
 pub count-needs-room : CountNeedsRoom
-count-needs-room bytes room value e = (list-short bytes room value e, list-enough bytes room value e)
+count-needs-room = record { given = above-needs; only = needs-above }
 
 -- ==== Demand 2
 
@@ -167,7 +169,7 @@ unfolding cover
 cover-is-what-shares s w room sheets e =
     let p = passed-judge (coverable s w) (laid (sheetsIn s w) room) e in
     let c = is-coverable (p .0) in
-    subst (Covers s w) (laid-same (sheetsIn s w) room (p .1)) (record {
+    subst (Covers s w) (laid-answered (sheetsIn s w) room (p .1) .0) (record {
       exactly = covering.exactly (c .seen);
       once = covering.once (c .seen);
       in-order = covering.in-order (c .seen);
@@ -179,15 +181,15 @@ unfolding cover coverable
 each-window-has-cover s w room i j k l fits = (sheetsIn s w, rw (i, j, k, le-leb (length (sheetsIn s w)) 4_096 l) (laid-fits (sheetsIn s w) fits))
 
 pub each-set-is-written : EachSetIsWritten
-each-set-is-written sheets room s l = set-written sheets room (set-passes sheets s) l
+each-set-is-written sheets room s l = list.set-written ofSheets sheets room (list.set-passes ofSheets sheets s) l
 
 pub only-sets-are-written : OnlySetsAreWritten
-only-sets-are-written sheets bytes room e = passes-set sheets (written-set sheets room e .0)
+only-sets-are-written sheets bytes room e = list.passes-set ofSheets sheets (list.written-set ofSheets sheets room e .0)
 
 pub each-list-reads-back : EachListReadsBack
 each-list-reads-back sheets bytes room lent e l =
-    let w = written-set sheets room e in
-    ap (λ (b : List ℕ). readList b lent) (sym (w .1)) ∙ list.reads-back sheets lent (w .0) l
+    let w = list.written-set ofSheets sheets room e in
+    ap (λ (b : List ℕ). readList b lent) (sym (w .1)) ∙ list.reads-back sheets-work sheets lent (w .0) l
 
 -- ==== Demand 3
 
@@ -196,17 +198,17 @@ one-ground-one-spelling = label.one-ground-one-spelling
 
 pub one-set-one-list : OneSetOneList
 one-set-one-list a b bytes room lent e f =
-    let v = written-set a room e in
-    let w = written-set b lent f in
-    list.one-set-one-list a b (v .0) (w .0) (v .1 ∙ sym (w .1))
+    let v = list.written-set ofSheets a room e in
+    let w = list.written-set ofSheets b lent f in
+    list.one-set-one-list sheets-work a b (v .0) (w .0) (v .1 ∙ sym (w .1))
 
 pub accepted-list-is-written : AcceptedListIsWritten
 accepted-list-is-written bytes room b e =
-    let w = list.was-written bytes room (all-bytes bytes b) e in
+    let w = list.was-written sheets-work bytes room (all-bytes bytes b) e in
     let placed = readList bytes room .placed in
-    (passes-set placed (w .set), set-written placed (length bytes) (w .set) (omega (arith, ap length (w .list))) ∙ ap answer (sym (w .list)))
+    (list.passes-set ofSheets placed (w .set), list.set-written ofSheets placed (length bytes) (w .set) (omega (arith, ap length (w .list))) ∙ ap answer (sym (w .list)))
 
 pub cut-ends-early : CutEndsEarly
 cut-ends-early sheets bytes room cut lent e short enough =
-    let w = written-set sheets room e in
-    ap (λ (b : List ℕ). readList (take cut b) lent) (sym (w .1)) ∙ list.cut-ends-early sheets cut lent (w .0) enough (omega (arith, ap length (w .1)))
+    let w = list.written-set ofSheets sheets room e in
+    ap (λ (b : List ℕ). readList (take cut b) lent) (sym (w .1)) ∙ list.cut-ends-early sheets-work sheets cut lent (w .0) enough (omega (arith, ap length (w .1)))

@@ -6,17 +6,19 @@ use Prim.Native.Nat.{ℕ, zero, suc, _+_}
 use lib.Dec.{leb}
 use lib.ListN.{length, getD, drop}
 use Rattle.refusal.specs.Paper.{Paper, answer, refused, refuse_at_unless_, refuse_unless_, _>>_, _>>=_, roomFor, laid}
+use Rattle.rising.specs.Rising.{risingFrom}
 use Rattle.division.specs.Words.{_≤?_, _<?_, _=?_}
 use Rattle.division.specs.Table.{isScale, made}
 use Rattle.division.specs.declared.Edges.{Edges}
 use Rattle.division.specs.Grid.{area, within}
-use Rattle.division.specs.Sheet.{isSheet, scaleOf}
+use Rattle.division.specs.Sheet.{scaleOf}
 use Rattle.division.specs.Cover.{sheetsIn, isWindow, coverable}
 use Rattle.label.specs.Label.{inRange, scaleWith, wellFormed, numbersIn, sheetNamed, readLabel}
 use Rattle.catalogue.specs.Line.{labelIn, hasName, nameIn, isName, withName, readLine}
 use Rattle.shelf.specs.Number.{highs, readNumber}
-use Rattle.shelf.specs.Writing.{risingFrom, asSet}
-use Rattle.shelf.specs.Reading.{Reading, _thenRead_, readEntries}
+use Rattle.shelf.specs.Kind.{Kind}
+use Rattle.shelf.specs.Writing.{setIn}
+use Rattle.shelf.specs.Reading.{Reading, _thenRead_, entriesIn}
 use Rattle.demands.specs.Demands.{isIn, Gives, answers, refuses, needs}
 
 -- ---- the lines of a cascade
@@ -81,14 +83,14 @@ module _ {listed : List ℕ} where
   cover-gives h i j k s w =
       line-gives 2 (isScale s) h (line-gives 7 (isWindow w) i (line-gives 8 (within area w) j (test-gives 9 (length (sheetsIn s w) ≤? 4_096) k)))
 
-  rising-gives : isIn listed 3 ≡ true → isIn listed 15 ≡ true → (least : ℕ) (sheets : List ℕ) → Gives listed (risingFrom least sheets)
+  rising-gives : (judge : ℕ → Paper Unit) → ((n : ℕ) → Gives listed (judge n)) → isIn listed 15 ≡ true → (least : ℕ) (numbers : List ℕ) → Gives listed (risingFrom judge least numbers)
   unfolding risingFrom
-  rising-gives i j least [] = answers
-  rising-gives i j least (x ∷ xs) = line-gives 3 (isSheet x) i (line-gives 15 (least ≤? x) j (rising-gives i j (x + 1) xs))
+  rising-gives judge g i least [] = answers
+  rising-gives judge g i least (x ∷ xs) = then-gives (g x) (line-gives 15 (leb least x) i (rising-gives judge g i (x + 1) xs))
 
-  pub set-gives : isIn listed 9 ≡ true → isIn listed 3 ≡ true → isIn listed 15 ≡ true → (sheets : List ℕ) → Gives listed (asSet sheets)
-  unfolding asSet
-  set-gives h i j sheets = line-gives 9 (length sheets ≤? 4_096) h (rising-gives i j 0 sheets)
+  pub set-gives : (kind : Kind) → ((n : ℕ) → Gives listed (kind .judge 3 n)) → isIn listed 9 ≡ true → isIn listed 15 ≡ true → (numbers : List ℕ) → Gives listed (setIn kind numbers)
+  unfolding setIn
+  set-gives kind g h i numbers = line-gives 9 (length numbers ≤? 4_096) h (rising-gives (kind .judge 3) g i 0 numbers)
 
   pub number-gives : isIn listed 11 ≡ true → isIn listed 12 ≡ true → (bytes : List ℕ) → Gives listed (readNumber bytes)
   unfolding readNumber
@@ -96,11 +98,11 @@ module _ {listed : List ℕ} where
       let more = highs bytes in
       line-gives 12 (more <? 4) j (line-gives 11 (more <? length bytes) i (line-gives 12 (more =? 0 || 1 ≤? getD bytes more 0) j answers))
 
-  pub entries-give : isIn listed 11 ≡ true → isIn listed 12 ≡ true → isIn listed 13 ≡ true → isIn listed 14 ≡ true
-      → (k least : ℕ) (bytes : List ℕ) → Gives listed (readEntries k least bytes .ended)
-  unfolding readEntries
-  entries-give h i j l zero least bytes = test-gives 14 (length bytes =? 0) l
-  entries-give h i j l (suc k) least bytes =
+  pub entries-give : (kind : Kind) → ((n : ℕ) → Gives listed (kind .judge 13 n)) → isIn listed 11 ≡ true → isIn listed 12 ≡ true → isIn listed 14 ≡ true
+      → (more least : ℕ) (bytes : List ℕ) → Gives listed (entriesIn kind more least bytes .ended)
+  unfolding entriesIn
+  entries-give kind g h i j zero least bytes = test-gives 14 (length bytes =? 0) j
+  entries-give kind g h i j (suc more) least bytes =
       read-gives _ (number-gives h i bytes) λ gap.
-      read-gives _ (test-gives 13 (isSheet (least + gap .value)) j) λ fine.
-      entries-give h i j l k (least + gap .value + 1) (gap .rest)
+      read-gives _ (g (least + gap .value)) λ fine.
+      entries-give kind g h i j more (least + gap .value + 1) (gap .rest)

@@ -1,6 +1,6 @@
 pub mod GivesLaws
 pub mod RoomLaws
-pub mod SetLaws
+pub mod ListLaws
 pub mod SheetLaws
 pub mod Demands
 pub mod Starred

@@ -1,22 +1,18 @@
 -- Of a cascade only the last line, which lays its items into lent room, touches the room, and it alone asks for more. Assumes nothing.
 use mathlib.Core.Path.{_≡_, refl, sym, ap, _∙_, subst}
 use mathlib.Core.Bool.{Bool, true, false, false≢true}
-use mathlib.Core.List.{List, [], _∷_, _++_}
+use mathlib.Core.List.{List, _++_}
 use mathlib.Core.Logic.{⊎-elim}
 use Prim.Native.Nat.{ℕ, _≤_, _<_}
 use native.Mathlib.Omega.{arith}
-use borrow.Author.Tests.{le-leb, lt-leb, eq-eqb, eqb-true}
+use borrow.Author.Tests.{lt-leb, eq-eqb, eqb-true}
 use lib.ListN.{length, drop}
 use lib.Seq.{take-at, drop-at}
-use Rattle.refusal.specs.Paper.{Paper, answer, refused, refuse_unless_, _>>_, laid, roomAfter}
-use Rattle.refusal.proofs.PaperLaws.{same-answer}
+use Rattle.refusal.specs.Paper.{Paper, refused, refuse_unless_, _>>_, laid, roomAfter}
+use Rattle.refusal.proofs.PaperLaws.{differs, same-number, same-value, laid-fits, laid-answered}
 use Rattle.division.specs.Words.{_=?_}
 use Rattle.division.proofs.TestLaws.{le-or-less}
-use Rattle.shelf.specs.Number.{Number, readNumber}
-use Rattle.shelf.specs.Reading.{Reading, readEntries, readList}
-use Rattle.shelf.proofs.ReadingLaws.{count-over, count-room, count-read}
 use Rattle.demands.specs.Demands.{isIn, Gives, answers, refuses, needs, Fills, KeepsRoom}
-use Rattle.demands.proofs.GivesLaws.{given-listed, number-gives, entries-give}
 
 -- items in the front of a room
 pub fills : (room items : List ℕ) → length items ≤ length room → Fills room items (items ++ drop (length items) room)
@@ -26,39 +22,16 @@ fills room items h = record {
   beyond = drop-at items (drop (length items) room) (length items) refl;
 }
 
--- two refusals that are the same have the same number and value, and an answer is none
-same-number : {A : Type 0} {m n v w : ℕ} → _≡_ {A = Paper A} (refused m v) (refused n w) → m ≡ n
-same-number e = cc
-
-same-value : {A : Type 0} {m n v w : ℕ} → _≡_ {A = Paper A} (refused m v) (refused n w) → v ≡ w
-same-value e = cc
-
-differs : {A : Type 0} {a : A} {n v : ℕ} → answer a ≡ refused n v → ⊥
-differs e = let z : _≡_ {A = ℕ} 0 1 = cc in omega arith
-
 -- ---- items that are laid
 
 module _ (items : List ℕ) where
-  pub laid-fits : {room : ℕ} → length items ≤ room → laid items room ≡ answer items
-  laid-fits {room} h = rw (le-leb (length items) room h)
-
   laid-short : {room : ℕ} → room < length items → laid items room ≡ refused 10 (length items)
   laid-short {room} h = rw (lt-leb (length items) room h)
-
-  -- what is answered is those items, and there was room for them
-  laid-answered : (room : ℕ) {xs : List ℕ} → laid items room ≡ answer xs → (items ≡ xs) × (length items ≤ room)
-  laid-answered room e =
-      ⊎-elim (λ (h : length items ≤ room). (same-answer (sym (laid-fits h) ∙ e), h))
-      (λ (h : room < length items). absurd (differs (sym e ∙ laid-short h)))
-      (le-or-less (length items) room)
-
-  pub laid-same : (room : ℕ) {xs : List ℕ} → laid items room ≡ answer xs → items ≡ xs
-  laid-same room e = laid-answered room e .0
 
   -- what is refused tells their length, and there was no room
   laid-refused : (room : ℕ) {n v : ℕ} → laid items room ≡ refused n v → (length items ≡ v) × (room < length items)
   laid-refused room e =
-      ⊎-elim (λ (h : length items ≤ room). absurd (differs (sym (laid-fits h) ∙ e)))
+      ⊎-elim (λ (h : length items ≤ room). absurd (differs (sym (laid-fits items h) ∙ e)))
       (λ (h : room < length items). (same-value (sym (laid-short h) ∙ e), h))
       (le-or-less (length items) room)
 
@@ -66,10 +39,10 @@ module _ (items : List ℕ) where
   laid-keeps = record {
     refusal = λ room n v e. ap (λ (p : Paper (List ℕ)). roomAfter p room) e;
     filled = λ room xs e.
-        let t = laid-answered (length room) e in
+        let t = laid-answered items (length room) e in
         subst (λ (p : Paper (List ℕ)). Fills room xs (roomAfter p room)) (sym e) (fills room xs (omega (arith, ap length (t .0))));
     short = λ room v e. let t = laid-refused room e in omega arith;
-    needed = λ room v e. let t = laid-refused room e in (items, laid-fits (omega arith), t .0);
+    needed = λ room v e. let t = laid-refused room e in (items, laid-fits items (omega arith), t .0);
   }
 
 -- ---- what is before them refuses without room
@@ -91,54 +64,3 @@ then-keeps {listed} next (refuses {number} i) f k = refused-keeps number 0 (diff
     differ true e = sym (sym f ∙ ap (isIn listed) (sym (eqb-true number 10 e)) ∙ i)
     differ false e = refl
 then-keeps next (needs i) f k = absurd (false≢true (sym f ∙ i))
-
--- what is answered has passed it
-pub then-answered : {A : Type 0} {a : A} (p : Paper Unit) (next : Paper A) → (p >> next) ≡ answer a → (p ≡ answer tt) × (next ≡ answer a)
-then-answered (answer u) next e = (refl, e)
-then-answered (refused n v) next e = absurd (differs (sym e))
-
--- ---- when a list gives 10
-
--- its entries never do
-entries-not-10 : (k least : ℕ) (bytes : List ℕ) (v : ℕ) → readEntries k least bytes .ended ≡ refused 10 v → ⊥
-entries-not-10 k least bytes v e =
-    false≢true (given-listed (subst (Gives (11 ∷ 12 ∷ 13 ∷ 14 ∷ [])) e (entries-give refl refl refl refl k least bytes)))
-
--- so its count is above the room
-record Short (bytes : List ℕ) (room v : ℕ) : Type 0 where
-  rest : List ℕ
-  count : readNumber bytes ≡ answer (record { value = v; rest = rest })
-  few : v ≤ 4_096
-  short : room < v
-
-no-count : (bytes : List ℕ) (room : ℕ) {n v : ℕ} → readNumber bytes ≡ refused n v → readList bytes room .ended ≡ refused n v
-unfolding readList
-no-count bytes room e = rw e
-
-list-needs : (bytes : List ℕ) (room v : ℕ) → readList bytes room .ended ≡ refused 10 v → Short bytes room v
-list-needs bytes room v e = by (readNumber bytes) refl (number-gives {listed = 11 ∷ 12 ∷ []} refl refl bytes)
-  where
-    ended-as : (r : Reading) → readList bytes room ≡ r → r .ended ≡ refused 10 v
-    ended-as r f = ap (λ (q : Reading). q .ended) (sym f) ∙ e
-
-    by : (p : Paper Number) → readNumber bytes ≡ p → Gives (11 ∷ 12 ∷ []) p → Short bytes room v
-    by (refused n w) f g = absurd (false≢true (ap (isIn (11 ∷ 12 ∷ [])) (sym (same-number (sym (no-count bytes room f) ∙ e))) ∙ given-listed g))
-    by (answer c) f g =
-        ⊎-elim
-        (λ (few : c .value ≤ 4_096).
-        ⊎-elim (λ (fits : c .value ≤ room). absurd (entries-not-10 (c .value) 0 (c .rest) v (ended-as _ (count-read bytes room (c .value) (c .rest) f few fits))))
-        (λ (short : room < c .value).
-        let same : c .value ≡ v = same-value (ended-as _ (count-room bytes room (c .value) (c .rest) f few short)) in
-        subst (Short bytes room) same (record { rest = c .rest; count = f; few = few; short = short }))
-        (le-or-less (c .value) room))
-        (λ (over : 4_096 < c .value). absurd (omega (arith, same-number (ended-as _ (count-over bytes room (c .value) (c .rest) f over)))))
-        (le-or-less (c .value) 4_096)
-
-module _ (bytes : List ℕ) (room v : ℕ) (e : readList bytes room .ended ≡ refused 10 v) where
-  pub list-short : room < v
-  list-short = list-needs bytes room v e .short
-
-  pub list-enough : (w : ℕ) → readList bytes v .ended ≡ refused 10 w → ⊥
-  list-enough w f =
-      let s = list-needs bytes room v e in
-      entries-not-10 v 0 (s .rest) w (ap (λ (q : Reading). q .ended) (sym (count-read bytes v v (s .rest) (s .count) (s .few) (omega arith))) ∙ f)

@@ -6,7 +6,7 @@ use native.Mathlib.Omega.{arith}
 use borrow.Author.Tests.{eqb-true}
 use lib.IntN.{ℤ, pos, _+ℤ_, _-ℤ_, +ℤ-comm, -ℤ-+ℤ-cancel}
 use Rattle.refusal.specs.Paper.{answer}
-use Rattle.refusal.proofs.PaperLaws.{passed, same-answer}
+use Rattle.refusal.proofs.PaperLaws.{passed, same-answer, laid-fits}
 use Rattle.division.specs.declared.Offset.{Offset}
 use Rattle.division.specs.Words.{_≤?_, _=?_}
 use Rattle.division.specs.Table.{tableRow, rowsOf, columnsOf, parentScale}
@@ -17,7 +17,6 @@ use Rattle.division.proofs.TableLaws.{Each, each}
 use Rattle.label.specs.Label.{labelOf, writeLabel}
 use Rattle.label.proofs.LengthLaws.{label-high}
 use Rattle.demands.specs.Demands.{AddsUp, Steps}
-use Rattle.demands.proofs.RoomLaws.{laid-fits}
 
 -- ---- the table
 

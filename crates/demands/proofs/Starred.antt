@@ -1,6 +1,7 @@
 -- The starred cases hold: each computes from the definitions. Assumes nothing.
 use mathlib.Core.Path.{refl}
 use mathlib.Core.List.{flatMap}
+use Rattle.rising.specs.Rising.{risingFrom}
 use Rattle.division.specs.Words.{from, keep}
 use Rattle.division.specs.Table.{tableRow, rowsOf, columnsOf}
 use Rattle.division.specs.Grid.{edgesOf}
@@ -8,10 +9,10 @@ use Rattle.division.specs.Sheet.{indexAt, placeAt, scaleOf, locate, sheetAt, co
 use Rattle.label.specs.Text.{text, every, split, join, value, digits, withoutZeros, decimal}
 use Rattle.label.specs.Label.{markOf, fieldsOf, countOf, inRange, placeFrom, scaleWith, wellFormed, sheetNamed, readLabel, labelOf, writeLabel}
 use Rattle.shelf.specs.Number.{moreGroups, inGroups, numberBytes, groupsValue, highs, readNumber}
-use Rattle.shelf.specs.Writing.{gapsFrom, listBytes, risingFrom, asSet, writeList}
-use Rattle.shelf.specs.Reading.{readEntries, readList}
+use Rattle.shelf.specs.Writing.{gapsFrom, bytesIn, setIn, writeIn}
+use Rattle.shelf.specs.Reading.{entriesIn, behindIn, readIn}
 use Rattle.demands.specs.Starred.{All, starred}
 
 pub all-starred : All starred
-unfolding flatMap from keep tableRow rowsOf columnsOf edgesOf indexAt placeAt scaleOf locate sheetAt cornersOf text every split join value digits withoutZeros decimal markOf fieldsOf countOf inRange placeFrom scaleWith wellFormed sheetNamed readLabel labelOf writeLabel moreGroups inGroups numberBytes groupsValue highs readNumber gapsFrom listBytes risingFrom asSet writeList readEntries readList
+unfolding flatMap from keep tableRow rowsOf columnsOf edgesOf indexAt placeAt scaleOf locate sheetAt cornersOf text every split join value digits withoutZeros decimal markOf fieldsOf countOf inRange placeFrom scaleWith wellFormed sheetNamed readLabel labelOf writeLabel moreGroups inGroups numberBytes groupsValue highs readNumber gapsFrom bytesIn risingFrom setIn writeIn entriesIn behindIn readIn
 all-starred = ((refl, (refl, refl)), ((refl, (refl, refl)), ((refl, (refl, refl)), ((refl, (refl, refl)), ((refl, (refl, refl)), ((refl, (refl, refl)), ((refl, (refl, refl)), ((refl, (refl, refl)), ((refl, (refl, refl)), (refl, (refl, (((refl, refl), refl), (refl, (refl, (refl, tt)))))))))))))))

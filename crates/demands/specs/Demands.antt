@@ -7,8 +7,9 @@ use mathlib.Core.Bool.{Bool, true, false, cond, _||_}
 use mathlib.Core.List.{List, [], _∷_, List·Memᴰ, Pairwise, List·Nodup}
 use mathlib.Core.Logic.{_↔_}
 use lib.IntN.{ℤ, pos, negsuc, _+ℤ_}
-use lib.ListN.{length, getD, take, drop, replicate}
-use Rattle.refusal.specs.Paper.{Paper, answer, refused, _>>=_, roomAfter}
+use lib.ListN.{length, take, drop, replicate}
+use Rattle.refusal.specs.Paper.{Paper, answer, refused, refuse_unless_, _>>=_, roomAfter}
+use Rattle.rising.specs.Rising.{IsSet}
 use Rattle.division.specs.declared.Edges.{Edges}
 use Rattle.division.specs.declared.Place.{Place}
 use Rattle.division.specs.declared.Spot.{Spot}
@@ -24,6 +25,7 @@ use Rattle.label.specs.Text.{every}
 use Rattle.label.specs.Label.{isLabelByte, readLabel, writeLabel, labelLength}
 use Rattle.catalogue.specs.Line.{readLine}
 use Rattle.shelf.specs.declared.reading.Read.{Read}
+use Rattle.shelf.specs.Number.{readNumber}
 use Rattle.shelf.specs.Writing.{listBytes, writeList, listLength, whollyBefore}
 use Rattle.shelf.specs.Reading.{readList, roomAfterRead, IsRead}
 
@@ -95,26 +97,31 @@ pub record RoomKept : Type 0 where
   pub labels : (n : ℕ) → KeepsRoom (writeLabel n)
   pub lists : (sheets : List ℕ) → KeepsRoom (writeList sheets)
 
--- "A set of at most 4 096 sheets, strictly rising"
-pub record IsSet (sheets : List ℕ) : Type 0 where
-  pub few : length sheets ≤ 4_096
-  pub each : (i : ℕ) → i < length sheets → isSheet (getD sheets i 0) ≡ true
-  pub rising : (i : ℕ) → i + 1 < length sheets → getD sheets i 0 < getD sheets (i + 1) 0
+-- "A set of at most 4 096 sheets, strictly rising" (`IsSet`: rising/specs/Rising)
+abbrev pub IsSheetSet : List ℕ → Type 0
+IsSheetSet = IsSet (λ sheet. refuse 3 unless isSheet sheet) 4_096
 
 -- "save that the list reader keeps the whole sheets it has placed and says how many": whatever the bytes, and however the reading ends
 pub record Placed (bytes room : List ℕ) (told : Read) : Type 0 where
   pub count : told .placed ≡ length (readList bytes (length room) .placed)
   pub filled : Fills room (readList bytes (length room) .placed) (roomAfterRead (readList bytes (length room)) room)
-  pub sheets : IsSet (readList bytes (length room) .placed)
+  pub sheets : IsSheetSet (readList bytes (length room) .placed)
 
 abbrev pub PlacedKept : Type 0
 PlacedKept = (bytes room : List ℕ) (told : Read) → IsRead (readList bytes (length room)) told → Placed bytes room told
 
--- "a count above the lent room gives 10", which carries the room needed: with that much there is no second 10
-abbrev pub CountNeedsRoom : Type 0
-CountNeedsRoom =
-    (bytes : List ℕ) (room value : ℕ) → readList bytes room .ended ≡ refused 10 value →
-    (room < value) × ((other : ℕ) → readList bytes value .ended ≡ refused 10 other → ⊥)
+-- "a count above the lent room": a number at the front of a list, well written, of at most 4 096
+pub record CountAbove (bytes : List ℕ) (room count : ℕ) : Type 0 where
+  pub rest : List ℕ
+  pub written : readNumber bytes ≡ answer (record { value = count; rest = rest })
+  pub few : count ≤ 4_096
+  pub above : room < count
+
+-- it "gives 10", which carries that very count, with nothing placed; and nothing else gives 10
+pub record CountNeedsRoom : Type 0 where
+  pub given : (bytes : List ℕ) (room count : ℕ) → CountAbove bytes room count →
+      readList bytes room ≡ record { ended = refused 10 count; placed = [] }
+  pub only : (bytes : List ℕ) (room value : ℕ) → readList bytes room .ended ≡ refused 10 value → CountAbove bytes room value
 
 -- ==== Demand 2
 -- "For all nine scales, point to sheet, sheet to label, label to sheet, corners, parent, child, step, neighbours and window cover are
@@ -257,10 +264,10 @@ EachWindowHasCover =
 -- "A shelf list has document 01's bytes", `listBytes`: "First the count, then for the first sheet its number, .."
 abbrev pub EachSetIsWritten : Type 0
 EachSetIsWritten =
-    (sheets : List ℕ) (room : ℕ) → IsSet sheets → length (listBytes sheets) ≤ room → writeList sheets room ≡ answer (listBytes sheets)
+    (sheets : List ℕ) (room : ℕ) → IsSheetSet sheets → length (listBytes sheets) ≤ room → writeList sheets room ≡ answer (listBytes sheets)
 
 abbrev pub OnlySetsAreWritten : Type 0
-OnlySetsAreWritten = (sheets bytes : List ℕ) (room : ℕ) → writeList sheets room ≡ answer bytes → IsSet sheets
+OnlySetsAreWritten = (sheets bytes : List ℕ) (room : ℕ) → writeList sheets room ≡ answer bytes → IsSheetSet sheets
 
 -- "and, given room, reads back to its set". So no list reader will do "that refuses every list"
 abbrev pub EachListReadsBack : Type 0
@@ -286,7 +293,7 @@ isByte b = b ≤? 255
 abbrev pub AcceptedListIsWritten : Type 0
 AcceptedListIsWritten =
     (bytes : List ℕ) (room : ℕ) → every isByte bytes ≡ true → readList bytes room .ended ≡ answer tt →
-    IsSet (readList bytes room .placed) × (writeList (readList bytes room .placed) (length bytes) ≡ answer bytes)
+    IsSheetSet (readList bytes room .placed) × (writeList (readList bytes room .placed) (length bytes) ≡ answer bytes)
 
 -- "A written list cut short gives "ends early" and exactly the sheets whose bytes are wholly before the cut". So no list reader will do
 -- "that decodes the first sheet and repeats it", and none "that makes up the number placed"

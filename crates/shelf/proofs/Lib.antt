@@ -1,5 +1,6 @@
 pub mod GroupLaws
 pub mod NumberLaws
+pub mod KindLaws
 pub mod WritingLaws
 pub mod ReadingLaws
 pub mod NumberTheorems

@@ -5,14 +5,14 @@ use mathlib.Core.List.{List, [], _∷_, _++_}
 use lib.ListN.{length, drop}
 use Rattle.refusal.specs.Paper.{Paper, answer, refused, refuse_unless_, roomFor}
 use Rattle.refusal.specs.Numbers.{onPaper}
-use Rattle.division.specs.Words.{_≤?_, _=?_}
-use Rattle.division.specs.Sheet.{isSheet}
-use Rattle.shelf.specs.Number.{readNumber}
+use Rattle.division.specs.Words.{_=?_}
+use Rattle.shelf.specs.Number.{Number, readNumber}
+use Rattle.shelf.specs.Kind.{Kind, ofSheets}
 use Rattle.shelf.specs.declared.reading.Ended.{Ended}
 use Rattle.shelf.specs.declared.reading.Ended.the-variants.{Whole, Refused}
 use Rattle.shelf.specs.declared.reading.Read.{Read}
 
--- how reading ends, and the sheets that it has placed
+-- how reading ends, and the numbers that it has placed
 pub record Reading : Type 0 where
   pub ended : Paper Unit
   pub placed : List ℕ
@@ -20,8 +20,8 @@ pub record Reading : Type 0 where
 abbrev pub stop : Paper Unit → Reading
 stop ended = record { ended = ended; placed = [] }
 
-abbrev pub place : ℕ → Reading → Reading
-place sheet later = record { ended = later .ended; placed = sheet ∷ later .placed }
+abbrev pub placeThen : ℕ → Reading → Reading
+placeThen number later = record { ended = later .ended; placed = number ∷ later .placed }
 
 -- a refusal stops the reading; else it goes on
 infixr 1 _thenRead_
@@ -29,21 +29,31 @@ abbrev pub _thenRead_ : {A : Type 0} → Paper A → (A → Reading) → Reading
 answer a thenRead next = next a
 refused number value thenRead next = stop (refused number value)
 
--- "Each entry then gives 11, 12, 13 or a sheet. After the last entry, more bytes give 14"
-unfoldable pub readEntries : ℕ → ℕ → List ℕ → Reading
-readEntries zero least bytes = stop (refuse 14 unless length bytes =? 0)
-readEntries (suc more) least bytes =
-    readNumber bytes thenRead λ gap.
-    (refuse 13 unless isSheet (least + gap .value)) thenRead λ fine.
-    place (least + gap .value) (readEntries more (least + gap .value + 1) (gap .rest))
+-- ---- a list of any kind (specs/Kind); where document 01 says "sheet", it is a number of that kind
 
--- "a count over 4 096 gives 12, and a count above the lent room gives 10"
-unfoldable pub readList : List ℕ → ℕ → Reading
-readList bytes room =
-    readNumber bytes thenRead λ count.
-    (refuse 12 unless count .value ≤? 4_096) thenRead λ fine.
-    roomFor (count .value) room thenRead λ fine.
-    readEntries (count .value) 0 (count .rest)
+module _ (kind : Kind) where
+  -- "Each entry then gives 11, 12, 13 or a sheet. After the last entry, more bytes give 14"
+  unfoldable pub entriesIn : ℕ → ℕ → List ℕ → Reading
+  entriesIn zero least bytes = stop (refuse 14 unless length bytes =? 0)
+  entriesIn (suc more) least bytes =
+      readNumber bytes thenRead λ gap.
+      kind .judge 13 (least + gap .value) thenRead λ fine.
+      placeThen (least + gap .value) (entriesIn more (least + gap .value + 1) (gap .rest))
+
+  -- "Then a count over 4 096 gives 12, and a count above the lent room gives 10": what is behind the first number
+  unfoldable pub behindIn : Number → ℕ → Reading
+  behindIn first room =
+      kind .count (first .value) thenRead λ count.
+      roomFor count room thenRead λ fine.
+      entriesIn count 0 (first .rest)
+
+  unfoldable pub readIn : List ℕ → ℕ → Reading
+  readIn bytes room = readNumber bytes thenRead λ first. behindIn first room
+
+-- ---- document 01's lists are those of sheets
+
+abbrev pub readList : List ℕ → ℕ → Reading
+readList = readIn ofSheets
 
 -- "all places beyond them keep their values"
 abbrev pub roomAfterRead : Reading → List ℕ → List ℕ

@@ -7,7 +7,8 @@ ghost use mathlib.Core.Path.{_≡_};
 ghost use Prim.Native.Nat.{_≤_};
 ghost use lib.ListN.{length, drop};
 ghost use Rattle.shelf.specs.declared.reading.Ended.the-variants.{Refused};
-ghost use Rattle.shelf.specs.Reading.{readEntries, readList, roomAfterRead, IsRead};
+ghost use Rattle.shelf.specs.Kind.{ofSheets};
+ghost use Rattle.shelf.specs.Reading.{entriesIn, readList, roomAfterRead, IsRead};
 
 pub enum Ended {
     Whole,
@@ -33,8 +34,8 @@ fn refused(why: Refusal, placed: usize) -> Read
 // The entries of a list of so many sheets, from a place on.
 fn read_entries(bytes: &[u8], from: usize, count: usize, room: &mut [u32]) -> Read
     requires { ⌜ count ≤ length (now room) ⌝ }
-    ensures { λ r. ⌜ IsRead (readEntries count 0 (drop from (now (bytes .entry)))) r ⌝ }
-    ensures { λ _. ⌜ now (room .exit) ≡ roomAfterRead (readEntries count 0 (drop from (now (bytes .entry)))) (now (room .entry)) ⌝ }
+    ensures { λ r. ⌜ IsRead (entriesIn ofSheets count 0 (drop from (now (bytes .entry)))) r ⌝ }
+    ensures { λ _. ⌜ now (room .exit) ≡ roomAfterRead (entriesIn ofSheets count 0 (drop from (now (bytes .entry)))) (now (room .entry)) ⌝ }
 {
     let mut at = from;
     let mut least: u32 = 0;

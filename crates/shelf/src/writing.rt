@@ -11,7 +11,8 @@ ghost use lib.Seq.{sets};
 ghost use Rattle.refusal.specs.Paper.{counted, roomAfter};
 ghost use Rattle.refusal.specs.Numbers.{laidPaper};
 ghost use Rattle.shelf.specs.Writing.{listBytes, writeList, listLength};
-ghost use Rattle.shelf.specs.Given.{Fits};
+ghost use Rattle.shelf.specs.Kind.{ofSheets};
+ghost use Rattle.shelf.specs.Given.{Writable};
 
 // How many bytes the list of so few sheets has, or the refusal of the first faulty place.
 fn measured(sheets: &[u32]) -> Laid
@@ -48,7 +49,7 @@ pub fn list_length(sheets: &[u32]) -> Laid
 
 // Writes the list of a set, for which there is room.
 fn put_list(sheets: &[u32], room: &mut [u8])
-    requires { ⌜ Fits (now sheets) (length (now room)) ⌝ }
+    requires { ⌜ Writable ofSheets (now sheets) (length (now room)) ⌝ }
     ensures { λ _. ⌜ now (room .exit) ≡ sets (now (room .entry)) 0 (listBytes (now (sheets .entry))) ⌝ }
 {
     let mut at = put_number(sheets.len() as u32, room, 0);

@@ -1,21 +1,22 @@
 -- Each turn reads one gap and places one sheet, and leaves the rest of the reading as it was. Assumes nothing.
 use borrow.Author.Needs.{needs}
 use native.Mathlib.Omega.{arith}
-use mathlib.Core.Bool.{true}
 use mathlib.Core.Path.{_≡_, subst}
-use Prim.Native.Nat.{_+_, _-_}
-use borrow.Author.Tests.{leb-true}
-use Rattle.division.specs.Sheet.{isSheet}
+use Prim.Native.Nat.{ℕ, _+_, _-_}
+use Rattle.refusal.specs.Paper.{answer}
+use Rattle.refusal.specs.declared.Refusal.the-variants.{PastLast}
 use Rattle.refusal.proofs.PaperLaws.{fails, holds}
 use Rattle.shelf.specs.declared.number.Next.{Next}
 use Rattle.shelf.specs.declared.number.Next.the-variants as next
+use Rattle.shelf.specs.Kind.{ofSheets}
 use Rattle.shelf.specs.Given.{IsNext}
-use Rattle.shelf.proofs.ReadingLaws.{Entering, entering-first, entering-next, ends-refused, ends-past, ends-over, ends-whole}
+use Rattle.shelf.proofs.KindLaws.{sheet-fine, sheet-past, sheets-work}
+use Rattle.shelf.proofs.ReadingLaws.{Entering, entering-first, entering-next, ends-refused, ends-judged, ends-over, ends-whole}
 use Rattle.shelf.proofs.reading.read_entries.Statement.{statement}
 use Rattle.shelf.proofs.reading.read_entries.Tie as tie
 
 abbrev Inv-loop : tie.InvT-loop
-Inv-loop bytes from count room₀ at₀ least₀ i₀ room at least i = Entering bytes from count room₀ room at least i
+Inv-loop bytes from count room₀ at₀ least₀ i₀ room at least i = Entering ofSheets bytes from count room₀ room at least i
 
 abbrev μ-loop : tie.MeasureT-loop
 μ-loop bytes from count room₀ at₀ least₀ i₀ room at least i = count - i
@@ -29,11 +30,14 @@ got c =
     (c .before .gap .given .1) (c .before .before .before .next-number .ensures)
 
 -- it leads to a sheet, where the test for one has passed
-is-one : (c : tie.Else1 Inv-loop μ-loop) → isSheet (c .before .before .before .before .before .before .before .loop .least + c .before .before .before .gap .given .0 .0) ≡ true
-is-one c = holds (c .before .is-sheet .ensures) (c .if1 .left)
+abbrev led : tie.After-is-sheet Inv-loop μ-loop → ℕ
+led c = c .before .before .before .before .before .before .loop .least + c .before .before .gap .given .0 .0
+
+fine : (c : tie.Else1 Inv-loop μ-loop) → ofSheets .judge 13 (led (c .before)) ≡ answer tt
+fine c = sheet-fine 13 (led (c .before)) (holds (c .before .is-sheet .ensures) (c .if1 .left))
 
 loop-holds : tie.Need-loop-holds Inv-loop μ-loop
-loop-holds c = let a = c .before .before in entering-first (a .args .bytes .now) (a .args .from) (a .args .count) (a .args .room .now) (a .pre)
+loop-holds c = let a = c .before .before in entering-first ofSheets (a .args .bytes .now) (a .args .from) (a .args .count) (a .args .room .now) (a .pre)
 
 next-number-requires : tie.Need-next-number-requires Inv-loop μ-loop
 next-number-requires c κs = search needs
@@ -73,8 +77,8 @@ same-length-2 c = search needs
 returns-2 : tie.Need-returns-2 Inv-loop μ-loop
 returns-2 c =
     let l = c .before .before .before .before .before .before .before .before .loop in
-    ends-past (l .inv) (c .before .before .before .before .before .before .before .loop-test .taken) _ _ (got (c .before .before .before)) (c .refused2 .ensures)
-    (fails (c .before .before .is-sheet .ensures) (c .before .if1 .taken))
+    ends-judged (l .inv) (c .before .before .before .before .before .before .before .loop-test .taken) _ _ (got (c .before .before .before)) PastLast (c .refused2 .ensures)
+    (sheet-past 13 (led (c .before .before)) (fails (c .before .before .is-sheet .ensures) (c .before .if1 .taken)))
 
 mul-room : tie.Need-mul-room Inv-loop μ-loop
 mul-room c = search needs
@@ -83,9 +87,7 @@ slice-write-room : tie.Need-slice-write-room Inv-loop μ-loop
 slice-write-room c = search needs
 
 add-least : tie.Need-add-least Inv-loop μ-loop
-add-least c =
-    let sheet = c .before .before .before .before .before .before .before .loop .least + c .before .before .before .gap .given .0 .0 in
-    omega (arith, leb-true sheet 7_953_173 (is-one c))
+add-least c = omega (arith, sheets-work .fine-small 13 (led (c .before)) (fine c))
 
 add-i : tie.Need-add-i Inv-loop μ-loop
 add-i c = search needs
@@ -96,7 +98,7 @@ loop-less c = search needs
 loop-again : tie.Need-loop-again Inv-loop μ-loop
 loop-again c =
     let l = c .before .before .before .before .before .before .before .loop in
-    entering-next (l .inv) (c .before .before .before .before .before .before .loop-test .taken) _ _ (got (c .before .before)) (is-one c)
+    entering-next (l .inv) (c .before .before .before .before .before .before .loop-test .taken) _ _ (got (c .before .before)) sheets-work (fine c)
 
 refused-requires-3 : tie.Need-refused-requires-3 Inv-loop μ-loop
 refused-requires-3 c κs = search needs

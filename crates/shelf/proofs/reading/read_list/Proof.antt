@@ -4,7 +4,10 @@ use lib.ListN.{length}
 use Rattle.shelf.specs.declared.number.Next.{Next}
 use Rattle.shelf.specs.declared.number.Next.the-variants as next
 use Rattle.shelf.specs.Given.{IsNext}
-use Rattle.shelf.proofs.ReadingLaws.{reads-none, count-refused, count-over, count-room, count-read}
+use Rattle.refusal.specs.declared.Refusal.the-variants.{BadNumber}
+use Rattle.shelf.specs.Kind.{ofSheets}
+use Rattle.shelf.proofs.KindLaws.{sheets-count, sheets-over}
+use Rattle.shelf.proofs.ReadingLaws.{reads-none, first-refused, count-refused, count-room, count-read}
 use borrow.Author.Needs.{needs}
 use Rattle.shelf.proofs.reading.read_list.Statement.{statement}
 use Rattle.shelf.proofs.reading.read_list.Tie as tie
@@ -31,7 +34,7 @@ refused-requires-2 c κs = search needs
 returns : tie.Need-returns
 returns c =
     let a = c .before .before .before .before .before .before .before .before .args in
-    reads-none (a .room .now) _ (c .refused2 .ensures) (count-over (a .bytes .now) (length (a .room .now)) _ _ (got (c .before .before) .0) (c .before .if1 .taken)) refl
+    reads-none (a .room .now) _ (c .refused2 .ensures) (count-refused ofSheets (a .bytes .now) (length (a .room .now)) _ _ (got (c .before .before) .0) BadNumber (sheets-over _ (c .before .if1 .taken))) refl
 
 cast-count : tie.Need-cast-count
 cast-count c = search needs
@@ -43,7 +46,7 @@ returns-2 : tie.Need-returns-2
 returns-2 c =
     let a = c .before .before .before .before .before .before .before .before .before .args in
     reads-none (a .room .now) _ (c .refused3 .ensures)
-    (count-room (a .bytes .now) (length (a .room .now)) _ _ (got (c .before .before .before) .0) (c .before .before .if1 .left) (c .before .if2 .taken)) refl
+    (count-room ofSheets (a .bytes .now) (length (a .room .now)) _ _ (got (c .before .before .before) .0) _ (sheets-count _ (c .before .before .if1 .left)) (c .before .if2 .taken)) refl
 
 read-entries-requires : tie.Need-read-entries-requires
 read-entries-requires c κs = search needs
@@ -53,7 +56,7 @@ returns-3 c =
     let a = c .before .before .before .before .before .before .before .args in
     let why = c .before .before .why in
     reads-none (a .room .now) _ (c .refused .ensures)
-    (count-refused (a .bytes .now) (length (a .room .now)) (why .given .0 .0) (subst (λ (r : Next). IsNext (a .bytes .now) 0 r) (why .given .1) (c .before .before .before .before .next-number .ensures)))
+    (first-refused ofSheets (a .bytes .now) (length (a .room .now)) (why .given .0 .0) (subst (λ (r : Next). IsNext (a .bytes .now) 0 r) (why .given .1) (c .before .before .before .before .next-number .ensures)))
     refl
 
 same-length : tie.Need-same-length
@@ -62,7 +65,7 @@ same-length c = search needs
 returns-4 : tie.Need-returns-4
 returns-4 c =
     let a = c .before .before .before .before .before .before .before .before .before .before .before .before .args in
-    rw (count-read (a .bytes .now) (length (a .room .now)) _ _ (got (c .before .before .before .before .before .before) .0) (c .before .before .before .before .before .if1 .left) (c .before .before .before .before .if2 .left))
+    rw (count-read ofSheets (a .bytes .now) (length (a .room .now)) _ _ (got (c .before .before .before .before .before .before) .0) _ (sheets-count _ (c .before .before .before .before .before .if1 .left)) (c .before .before .before .before .if2 .left))
     (c .before .before .read-entries .ensures)
 
 pub read-list-spec : {M : Type 1} → statement M

@@ -1,12 +1,13 @@
 -- More than 4 096 sheets are refused, and fewer are measured. Assumes nothing.
 use mathlib.Core.Path.{sym}
+use Rattle.shelf.specs.Kind.{ofSheets}
 use Rattle.shelf.proofs.WritingLaws.{many}
 use borrow.Author.Needs.{needs}
 use Rattle.shelf.proofs.writing.list_length.Statement.{statement}
 use Rattle.shelf.proofs.writing.list_length.Tie as tie
 
 returns : tie.Need-returns
-returns c = sym (many (c .before .before .args .sheets .now) (c .if1 .taken))
+returns c = sym (many ofSheets (c .before .before .args .sheets .now) (c .if1 .taken))
 
 measured-requires : tie.Need-measured-requires
 measured-requires c κs = search needs

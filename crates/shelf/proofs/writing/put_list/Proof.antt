@@ -3,27 +3,29 @@ use borrow.Author.Needs.{needs}
 use native.Mathlib.Omega.{arith}
 use Prim.Native.Nat.{_-_}
 use lib.ListN.{length}
-use Rattle.shelf.proofs.WritingLaws.{Putting, putting-first, putting-next, putting-done, few-sheets, length-list, gap-fits, here}
+use Rattle.shelf.specs.Kind.{ofSheets}
+use Rattle.shelf.proofs.KindLaws.{sheets-work}
+use Rattle.shelf.proofs.WritingLaws.{set-in, length-list, Putting, putting-first, putting-next, putting-done, gap-fits, here, here-small}
 use Rattle.shelf.proofs.writing.put_list.Statement.{statement}
 use Rattle.shelf.proofs.writing.put_list.Tie as tie
 
 abbrev Inv-loop : tie.InvT-loop
-Inv-loop sheets room₀ at₀ next₀ i₀ room at next i = Putting sheets room₀ at₀ room at next i
+Inv-loop sheets room₀ at₀ next₀ i₀ room at next i = Putting ofSheets sheets room₀ at₀ room at next i
 
 abbrev μ-loop : tie.MeasureT-loop
 μ-loop sheets room₀ at₀ next₀ i₀ room at next i = length sheets - i
 
 cast-put-number : tie.Need-cast-put-number Inv-loop μ-loop
-cast-put-number c = omega (arith, few-sheets (c .before .before .pre))
+cast-put-number c = omega (arith, set-in (c .before .before .pre .set) .few)
 
 put-number-requires : tie.Need-put-number-requires Inv-loop μ-loop
-put-number-requires c κs = let a = c .before .before .before in omega (arith, a .pre .enough, length-list (a .args .sheets .now))
+put-number-requires c κs = let a = c .before .before .before in omega (arith, a .pre .enough, length-list ofSheets (a .args .sheets .now))
 
 loop-holds : tie.Need-loop-holds Inv-loop μ-loop
 loop-holds c =
     let a = c .before .before .before .before .before .before in
     let p = c .before .before .put-number in
-    putting-first (a .args .sheets .now) (a .args .room .now) (a .pre) (p .last .1 .0) (p .result) (p .ensures .0) (p .ensures .1)
+    putting-first ofSheets (a .args .sheets .now) (a .args .room .now) (a .pre) (p .last .1 .0) (p .result) (p .ensures .0) (p .ensures .1)
 
 mul-sheet : tie.Need-mul-sheet Inv-loop μ-loop
 mul-sheet c = search needs
@@ -40,8 +42,7 @@ put-number-requires-2 c κs = gap-fits (c .before .before .before .loop .inv) (c
 add-next : tie.Need-add-next Inv-loop μ-loop
 add-next c =
     let l = c .before .before .before .before .before .before .loop in
-    let h = here (l .inv) (c .before .before .before .before .before .loop-test .taken) in
-    omega (arith, h .sheet)
+    omega (arith, here-small (l .inv) (c .before .before .before .before .before .loop-test .taken) sheets-work)
 
 add-i : tie.Need-add-i Inv-loop μ-loop
 add-i c = search needs
@@ -62,7 +63,7 @@ returns : tie.Need-returns Inv-loop μ-loop
 returns c =
     let a = c .before .before .before .before .before .before .before .before in
     let p = c .before .before .before .before .put-number in
-    putting-done (a .args .sheets .now) (a .args .room .now) (a .pre) (p .last .1 .0) (p .result) (p .ensures .0) (p .ensures .1) (c .before .loop .inv) (c .loop-test .left)
+    putting-done ofSheets (a .args .sheets .now) (a .args .room .now) (a .pre) (p .last .1 .0) (p .result) (p .ensures .0) (p .ensures .1) (c .before .loop .inv) (c .loop-test .left)
 
 pub put-list-spec : {M : Type 1} → statement M
 put-list-spec =

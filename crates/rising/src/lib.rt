@@ -1,0 +1,1 @@
+// No function: strictly rising lists under any judge of a number, and what is known of them. A set of sheets is lent as such a list.
