@@ -5,17 +5,18 @@ use mathlib.Core.List.{List, [], _∷_, _++_}
 use mathlib.Core.Logic.{⊎-elim}
 use Prim.Native.Nat.{ℕ, _≤_, _<_}
 use native.Mathlib.Omega.{arith}
-use borrow.Author.Tests.{le-leb, lt-leb, eq-eqb, eqb-true}
+use borrow.Author.Tests.{lt-leb, eq-eqb, eqb-true}
 use lib.ListN.{length, drop}
 use lib.Seq.{take-at, drop-at}
 use Rattle.refusal.specs.Paper.{Paper, answer, refused, refuse_unless_, _>>_, laid, roomAfter}
-use Rattle.refusal.proofs.PaperLaws.{same-answer}
+use Rattle.refusal.proofs.PaperLaws.{differs, same-number, same-value, laid-fits, laid-answered}
 use Rattle.division.specs.Words.{_=?_}
 use Rattle.division.proofs.TestLaws.{le-or-less}
 use Rattle.shelf.specs.Number.{Number, readNumber}
 use Rattle.shelf.specs.Reading.{Reading, readEntries, readList}
 use Rattle.shelf.proofs.ReadingLaws.{count-over, count-room, count-read}
-use Rattle.demands.specs.Demands.{isIn, Gives, answers, refuses, needs, Fills, KeepsRoom}
+use Rattle.demands.specs.Refusals.{isIn, Gives, answers, refuses}
+use Rattle.demands.specs.Room.{Fills, KeepsRoom}
 use Rattle.demands.proofs.GivesLaws.{given-listed, number-gives, entries-give}
 
 -- items in the front of a room
@@ -26,39 +27,16 @@ fills room items h = record {
   beyond = drop-at items (drop (length items) room) (length items) refl;
 }
 
--- two refusals that are the same have the same number and value, and an answer is none
-same-number : {A : Type 0} {m n v w : ℕ} → _≡_ {A = Paper A} (refused m v) (refused n w) → m ≡ n
-same-number e = cc
-
-same-value : {A : Type 0} {m n v w : ℕ} → _≡_ {A = Paper A} (refused m v) (refused n w) → v ≡ w
-same-value e = cc
-
-differs : {A : Type 0} {a : A} {n v : ℕ} → answer a ≡ refused n v → ⊥
-differs e = let z : _≡_ {A = ℕ} 0 1 = cc in omega arith
-
 -- ---- items that are laid
 
 module _ (items : List ℕ) where
-  pub laid-fits : {room : ℕ} → length items ≤ room → laid items room ≡ answer items
-  laid-fits {room} h = rw (le-leb (length items) room h)
-
   laid-short : {room : ℕ} → room < length items → laid items room ≡ refused 10 (length items)
   laid-short {room} h = rw (lt-leb (length items) room h)
-
-  -- what is answered is those items, and there was room for them
-  laid-answered : (room : ℕ) {xs : List ℕ} → laid items room ≡ answer xs → (items ≡ xs) × (length items ≤ room)
-  laid-answered room e =
-      ⊎-elim (λ (h : length items ≤ room). (same-answer (sym (laid-fits h) ∙ e), h))
-      (λ (h : room < length items). absurd (differs (sym e ∙ laid-short h)))
-      (le-or-less (length items) room)
-
-  pub laid-same : (room : ℕ) {xs : List ℕ} → laid items room ≡ answer xs → items ≡ xs
-  laid-same room e = laid-answered room e .0
 
   -- what is refused tells their length, and there was no room
   laid-refused : (room : ℕ) {n v : ℕ} → laid items room ≡ refused n v → (length items ≡ v) × (room < length items)
   laid-refused room e =
-      ⊎-elim (λ (h : length items ≤ room). absurd (differs (sym (laid-fits h) ∙ e)))
+      ⊎-elim (λ (h : length items ≤ room). absurd (differs (sym (laid-fits items h) ∙ e)))
       (λ (h : room < length items). (same-value (sym (laid-short h) ∙ e), h))
       (le-or-less (length items) room)
 
@@ -66,10 +44,10 @@ module _ (items : List ℕ) where
   laid-keeps = record {
     refusal = λ room n v e. ap (λ (p : Paper (List ℕ)). roomAfter p room) e;
     filled = λ room xs e.
-        let t = laid-answered (length room) e in
+        let t = laid-answered items (length room) e in
         subst (λ (p : Paper (List ℕ)). Fills room xs (roomAfter p room)) (sym e) (fills room xs (omega (arith, ap length (t .0))));
     short = λ room v e. let t = laid-refused room e in omega arith;
-    needed = λ room v e. let t = laid-refused room e in (items, laid-fits (omega arith), t .0);
+    needed = λ room v e. let t = laid-refused room e in (items, laid-fits items (omega arith), t .0);
   }
 
 -- ---- what is before them refuses without room
@@ -85,17 +63,11 @@ line-keeps n false next f k = refused-keeps n 0 f
 
 pub then-keeps : {listed : List ℕ} {p : Paper Unit} (next : ℕ → Paper (List ℕ)) → Gives listed p → isIn listed 10 ≡ false → KeepsRoom next → KeepsRoom (λ room. p >> next room)
 then-keeps next answers f k = k
-then-keeps {listed} next (refuses {number} i) f k = refused-keeps number 0 (differ (number =? 10) refl)
+then-keeps {listed} next (refuses {number} {value} i c) f k = refused-keeps number value (differ (number =? 10) refl)
   where
     differ : (same : Bool) → (number =? 10) ≡ same → same ≡ false
     differ true e = sym (sym f ∙ ap (isIn listed) (sym (eqb-true number 10 e)) ∙ i)
     differ false e = refl
-then-keeps next (needs i) f k = absurd (false≢true (sym f ∙ i))
-
--- what is answered has passed it
-pub then-answered : {A : Type 0} {a : A} (p : Paper Unit) (next : Paper A) → (p >> next) ≡ answer a → (p ≡ answer tt) × (next ≡ answer a)
-then-answered (answer u) next e = (refl, e)
-then-answered (refused n v) next e = absurd (differs (sym e))
 
 -- ---- when a list gives 10
 

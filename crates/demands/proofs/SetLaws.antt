@@ -9,7 +9,7 @@ use native.Mathlib.Omega.{arith}
 use borrow.Author.Tests.{le-leb, leb-true}
 use lib.ListN.{length, getD}
 use Rattle.refusal.specs.Paper.{Paper, answer, refused, refuse_unless_, roomFor, laid}
-use Rattle.refusal.proofs.PaperLaws.{passed}
+use Rattle.refusal.proofs.PaperLaws.{passed, passed-test, passed-room, passed-judge, laid-fits, laid-answered}
 use Rattle.division.specs.Words.{_≤?_}
 use Rattle.division.specs.Sheet.{isSheet}
 use Rattle.division.proofs.TestLaws.{both}
@@ -17,10 +17,8 @@ use Rattle.label.specs.Text.{every}
 use Rattle.shelf.specs.Number.{readNumber}
 use Rattle.shelf.specs.Writing.{listBytes, risingFrom, asSet, writeList}
 use Rattle.shelf.specs.Reading.{Reading, place, _thenRead_, readEntries, readList}
-use Rattle.refusal.proofs.PaperLaws.{passed-test, passed-room}
 use Rattle.shelf.proofs.NumberTheorems.{Bytes}
-use Rattle.demands.specs.Demands.{IsSet, isByte}
-use Rattle.demands.proofs.RoomLaws.{laid-fits, laid-same, then-answered}
+use Rattle.demands.specs.Lists.{IsSet, isByte}
 
 -- ---- sets
 
@@ -77,8 +75,8 @@ set-written sheets room e l = rw e (laid-fits (listBytes sheets) l)
 pub written-set : (sheets : List ℕ) (room : ℕ) {bytes : List ℕ} → writeList sheets room ≡ answer bytes → (asSet sheets ≡ answer tt) × (listBytes sheets ≡ bytes)
 unfolding writeList
 written-set sheets room e =
-    let t = then-answered (asSet sheets) (laid (listBytes sheets) room) e in
-    (t .0, laid-same (listBytes sheets) room (t .1))
+    let t = passed-judge (asSet sheets) (laid (listBytes sheets) room) e in
+    (t .0, laid-answered (listBytes sheets) room (t .1) .0)
 
 -- ---- what is placed
 

@@ -13,11 +13,11 @@ use Rattle.refusal.specs.Paper.{answer}
 use Rattle.refusal.proofs.PaperLaws.{passed, found, same-answer}
 use Rattle.division.specs.declared.Place.{Place}
 use Rattle.division.specs.Words.{between, from, keep}
-use Rattle.division.specs.Table.{Made, ofArea, ofScale, table, tableRow, rowsOf, columnsOf, made, isScale}
+use Rattle.division.specs.Table.{Made, ofArea, ofScale, table, tableRow, rowsOf, columnsOf, made}
 use Rattle.division.specs.Sheet.{isSheet, scaleOf, placeOf, sheetOf, parentPlace}
 use Rattle.division.specs.Given.{IsScale, OnGrid}
 use Rattle.division.specs.Theorems.{SameGround}
-use Rattle.division.proofs.TestLaws.{both}
+use Rattle.division.proofs.TestLaws.{both, between-in}
 use Rattle.division.proofs.MadeLaws.{Sound, On, number-few, on-parent}
 use Rattle.division.proofs.TableLaws.{Each, each, rules, scale, is-scale}
 use Rattle.division.proofs.NumberLaws.{on-grid, sheet-place, scale-sheet, place-sheet, is-sheet}
@@ -26,11 +26,11 @@ use Rattle.label.specs.Text.{every, split, join, value, digits, withoutZ
 use Rattle.label.specs.Label.{markOf, fieldsOf, countOf, inRange, placeFrom, scaleWith, scaleNamed, isLabelByte, isField, wellFormed, numbersIn, sheetNamed, readLabel, labelOf}
 use Rattle.label.proofs.ValueLaws.{value-decimal}
 use Rattle.label.proofs.SplitLaws.{FreeAll, split-join, join-split}
-use Rattle.label.proofs.FieldLaws.{between-in, count-fields, place-fields, range-fields, on-from, fields-place}
+use Rattle.label.proofs.FieldLaws.{count-fields, place-fields, range-fields, on-from, fields-place}
 use Rattle.label.proofs.LengthLaws.{Short, sizes}
 use Rattle.label.proofs.ByteLaws.{decimal-digits}
 use Rattle.label.proofs.SpellLaws.{digits-free, pieces, pieces-spelt}
-use Rattle.label.proofs.NamedLaws.{Named, named}
+use Rattle.label.proofs.NamedLaws.{named}
 use Rattle.label.proofs.WritingTheorems.{labels-short, labels-plain}
 
 -- ---- what is written is well formed
