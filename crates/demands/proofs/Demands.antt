@@ -3,7 +3,7 @@ use Rattle.demands.specs.Demands.{Demands}
 use Rattle.demands.proofs.Refusals.{refusals-numbered}
 use Rattle.demands.proofs.Room.{room-kept}
 use Rattle.demands.proofs.Sheets.{table-adds-up, each-point-in-one-sheet, each-sheet-has-corners, sheet-is-located, parent-and-child, step-and-offset, neighbours-are-around, cover-is-what-shares}
-use Rattle.demands.proofs.Labels.{each-label-reads-back, accepted-label-is-written, one-ground-one-spelling}
+use Rattle.demands.proofs.Labels.{each-label-reads-back, one-ground-one-spelling}
 use Rattle.demands.proofs.Lists.{placed-kept, count-needs-room, each-set-is-written, only-sets-are-written, each-list-reads-back, one-set-one-list, accepted-list-is-written, cut-ends-early}
 
 pub demands : Demands
@@ -21,7 +21,6 @@ demands = record {
   neighbours-are-around = neighbours-are-around;
   cover-is-what-shares = cover-is-what-shares;
   each-label-reads-back = each-label-reads-back;
-  accepted-label-is-written = accepted-label-is-written;
   each-set-is-written = each-set-is-written;
   only-sets-are-written = only-sets-are-written;
   each-list-reads-back = each-list-reads-back;

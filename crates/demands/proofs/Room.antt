@@ -6,13 +6,13 @@ use Rattle.division.specs.Cover.{sheetsIn, cover}
 use Rattle.label.specs.Label.{labelOf, writeLabel}
 use Rattle.shelf.specs.Writing.{listBytes, writeList}
 use Rattle.demands.specs.Room.{RoomKept}
-use Rattle.demands.proofs.GivesLaws.{cover-gives, set-gives}
-use Rattle.demands.proofs.RoomLaws.{laid-keeps, line-keeps, then-keeps}
+use Rattle.demands.proofs.GivesLaws.{test-gives, cover-gives, set-gives}
+use Rattle.demands.proofs.RoomLaws.{laid-keeps, then-keeps}
 
 pub room-kept : RoomKept
 unfolding cover writeLabel writeList
 room-kept = record {
   covers = λ s w. then-keeps _ (cover-gives {listed = 2 ∷ 7 ∷ 8 ∷ 9 ∷ []} refl refl refl refl s w) refl (laid-keeps (sheetsIn s w));
-  labels = λ n. line-keeps 3 (isSheet n) _ refl (laid-keeps (labelOf n));
+  labels = λ n. then-keeps _ (test-gives {listed = 3 ∷ []} 3 (isSheet n) refl) refl (laid-keeps (labelOf n));
   lists = λ sheets. then-keeps _ (set-gives {listed = 9 ∷ 3 ∷ 15 ∷ []} refl refl refl sheets) refl (laid-keeps (listBytes sheets));
 }

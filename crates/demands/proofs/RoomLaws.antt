@@ -8,7 +8,7 @@ use native.Mathlib.Omega.{arith}
 use borrow.Author.Tests.{lt-leb, eq-eqb, eqb-true}
 use lib.ListN.{length, drop}
 use lib.Seq.{take-at, drop-at}
-use Rattle.refusal.specs.Paper.{Paper, answer, refused, refuse_unless_, _>>_, laid, roomAfter}
+use Rattle.refusal.specs.Paper.{Paper, answer, refused, _>>_, laid, roomAfter}
 use Rattle.refusal.proofs.PaperLaws.{differs, same-number, same-value, laid-fits, laid-answered}
 use Rattle.division.specs.Words.{_=?_}
 use Rattle.division.proofs.TestLaws.{le-or-less}
@@ -56,10 +56,6 @@ refused-keeps : (n v : ℕ) → (n =? 10) ≡ false → KeepsRoom (λ room. refu
 refused-keeps n v f =
     let not-10 : (w : ℕ) → _≡_ {A = Paper (List ℕ)} (refused n v) (refused 10 w) → ⊥ = λ w e. false≢true (sym f ∙ eq-eqb n 10 (same-number e)) in
     record { refusal = λ room m w e. refl; filled = λ room xs e. absurd (differs (sym e)); short = λ room w e. absurd (not-10 w e); needed = λ room w e. absurd (not-10 w e) }
-
-pub line-keeps : (n : ℕ) (test : Bool) (next : ℕ → Paper (List ℕ)) → (n =? 10) ≡ false → KeepsRoom next → KeepsRoom (λ room. (refuse n unless test) >> next room)
-line-keeps n true next f k = k
-line-keeps n false next f k = refused-keeps n 0 f
 
 pub then-keeps : {listed : List ℕ} {p : Paper Unit} (next : ℕ → Paper (List ℕ)) → Gives listed p → isIn listed 10 ≡ false → KeepsRoom next → KeepsRoom (λ room. p >> next room)
 then-keeps next answers f k = k

@@ -11,7 +11,7 @@ use Rattle.refusal.proofs.PaperLaws.{passed, same-answer}
 use Rattle.division.specs.declared.Place.{Place}
 use Rattle.division.specs.declared.Offset.{Offset}
 use Rattle.division.specs.Words.{_=?_}
-use Rattle.division.specs.Table.{isScale, first}
+use Rattle.division.specs.Table.{isScale, first, last}
 use Rattle.division.specs.Grid.{area, owns, columnAt}
 use Rattle.division.specs.Sheet.{isSheet, scaleOf, placeOf, locate, sheetAt}
 use Rattle.division.specs.Relations.{offset}
@@ -20,7 +20,7 @@ use Rattle.division.proofs.TableLaws.{before, rules, all-sheets, scale}
 use Rattle.division.proofs.NumberLaws.{place-sheet, is-sheet}
 use Rattle.division.proofs.PointLaws.{inside, point-on}
 use Rattle.division.proofs.PointTheorems.{answered}
-use Rattle.demands.specs.Sheets.{AddsUp, Steps}
+use Rattle.demands.specs.Sheets.{Steps}
 
 -- ---- the table
 
@@ -31,8 +31,8 @@ next-begins {s} h false e =
     let i : IsScale (s + 1) = record { one = omega arith; nine = omega (arith, h .nine, eqb-false s 9 e) } in
     rules i .begins ∙ ap before (add-one s)
 
-pub adds-up : {s : ℕ} → IsScale s → AddsUp s
-adds-up {s} h = record { across = rules h .wide; down = rules h .high; next = omega (arith, rules h .ends, rules h .some, next-begins h (s =? 9) refl) }
+pub adds-up : {s : ℕ} → IsScale s → last s + 1 ≡ cond (s =? 9) 7_953_174 (first (s + 1))
+adds-up {s} h = omega (arith, rules h .ends, rules h .some, next-begins h (s =? 9) refl)
 
 -- ---- a step
 

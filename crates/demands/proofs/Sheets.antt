@@ -1,5 +1,5 @@
 -- Scales, points, sheets, relations and covers are document 01's: the theorems of division say so, and the table adds up. Assumes nothing.
-use mathlib.Core.Path.{_≡_, sym, _∙_, subst}
+use mathlib.Core.Path.{_≡_, refl, sym, _∙_, subst}
 use Prim.Native.Nat.{_+_, _/_}
 use borrow.Author.Tests.{le-leb, lt-leb, lt-ltb, eq-eqb}
 use native.Mathlib.Omega.{arith}
@@ -23,7 +23,7 @@ use Rattle.demands.specs.Sheets.{TableAddsUp, EachPointInOneSheet, EachS
 use Rattle.demands.proofs.SheetLaws.{adds-up, offset-steps}
 
 pub table-adds-up : TableAddsUp
-table-adds-up s h = adds-up (scale s h)
+table-adds-up = record { across = λ s h. rules (scale s h) .wide; down = λ s h. rules (scale s h) .high; next = λ s h. adds-up (scale s h) }
 
 pub each-point-in-one-sheet : EachPointInOneSheet
 each-point-in-one-sheet = record { inside = point.each-point-in-one-sheet; outside = point.outside-in-none }
@@ -40,7 +40,7 @@ sheet-is-located = record {
       let r = ranged n h in
       let o = on-grid n h in
       (spotOf n, rw h, in-between (first (scaleOf n)) (last (scaleOf n)) n (r .low) (omega (arith, r .high)), rw (lt-ltb (placeOf n .row) (rows (scaleOf n)) (o .in-rows)) (lt-ltb (placeOf n .column) (columns (scaleOf n)) (o .in-columns)));
-  each-place = λ s p h o. (sheetOf s p, rw (h, o));
+  each-place = λ s p h o. (sheetOf s p, rw (h, o) refl);
   and-back = λ n at. (sheet.located-sheet n, sheet.sheet-located (at .scale) (at .place));
 }
 

@@ -5,19 +5,17 @@
 use Rattle.demands.specs.Refusals.{RefusalsNumbered}
 use Rattle.demands.specs.Room.{RoomKept}
 use Rattle.demands.specs.Sheets.{TableAddsUp, EachPointInOneSheet, EachSheetHasCorners, SheetIsLocated, ParentAndChild, StepAndOffset, NeighboursAreAround, CoverIsWhatShares}
-use Rattle.demands.specs.Labels.{EachLabelReadsBack, AcceptedLabelIsWritten, OneGroundOneSpelling}
+use Rattle.demands.specs.Labels.{EachLabelReadsBack, OneGroundOneSpelling}
 use Rattle.demands.specs.Lists.{PlacedKept, CountNeedsRoom, EachSetIsWritten, OnlySetsAreWritten, EachListReadsBack, OneSetOneList, AcceptedListIsWritten, CutEndsEarly}
 
 pub record Demands : Type 0 where
-  -- Demand 1
-  -- "Every point, scale, sheet number, label, window and shelf list gets its answer or document 01's numbered refusal"
+  -- 1: "Every point, scale, sheet number, label, window and shelf list gets its answer or document 01's numbered refusal"
   pub refusals-numbered : RefusalsNumbered
   -- "A refusal writes nothing into lent room", "save that the list reader keeps the whole sheets it has placed and says how many"
   pub room-kept : RoomKept
   pub placed-kept : PlacedKept
   pub count-needs-room : CountNeedsRoom
-  -- Demand 2
-  -- "For all nine scales, point to sheet, sheet to label, label to sheet, corners, parent, child, step, neighbours and window cover are
+  -- 2: "For all nine scales, point to sheet, sheet to label, label to sheet, corners, parent, child, step, neighbours and window cover are
   -- document 01's"
   pub table-adds-up : TableAddsUp
   pub each-sheet-has-corners : EachSheetHasCorners
@@ -30,13 +28,11 @@ pub record Demands : Type 0 where
   pub each-point-in-one-sheet : EachPointInOneSheet
   -- "Each label reads back to its sheet"
   pub each-label-reads-back : EachLabelReadsBack
-  pub accepted-label-is-written : AcceptedLabelIsWritten
   -- "A shelf list has document 01's bytes and, given room, reads back to its set"
   pub each-set-is-written : EachSetIsWritten
   pub only-sets-are-written : OnlySetsAreWritten
   pub each-list-reads-back : EachListReadsBack
-  -- Demand 3
-  -- "Two accepted labels stand for the same ground only when they are the same bytes, whichever scales they are of"
+  -- 3: "Two accepted labels stand for the same ground only when they are the same bytes, whichever scales they are of"
   pub one-ground-one-spelling : OneGroundOneSpelling
   -- "Two sets of at most 4 096 sheets give the same list only when they are the same set"
   pub one-set-one-list : OneSetOneList

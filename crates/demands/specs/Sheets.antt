@@ -20,16 +20,13 @@ use Rattle.division.specs.Cover.{sheetsIn, isWindow, cover}
 use Rattle.division.specs.Theorems.{Holds, Shares}
 
 -- columns and rows fill the area, and the numbers of a scale end where the next one's begin, or with "The sheet number, 0 to 7 953 173"
-pub record AddsUp (s : ℕ) : Type 0 where
-  pub across : width s * columns s ≡ 600_000
-  pub down : height s * rows s ≡ 600_000
-  pub next : last s + 1 ≡ cond (s =? 9) 7_953_174 (first (s + 1))
+pub record TableAddsUp : Type 0 where
+  pub across : (s : ℕ) → isScale s ≡ true → width s * columns s ≡ 600_000
+  pub down : (s : ℕ) → isScale s ≡ true → height s * rows s ≡ 600_000
+  pub next : (s : ℕ) → isScale s ≡ true → last s + 1 ≡ cond (s =? 9) 7_953_174 (first (s + 1))
 
-abbrev pub TableAddsUp : Type 0
-TableAddsUp = (s : ℕ) → isScale s ≡ true → AddsUp s
-
--- the one that is answered (`Holds`: division/specs/Theorems), and a point outside the area in none. So no build will do "that always
--- refuses", and none "that names the same sheet for all"
+-- "Each point of the area lies in exactly one sheet of each scale", the one that is answered, and a point outside it in none (`Holds`:
+-- division/specs/Theorems). So no build will do "that always refuses", and none "that names the same sheet for all"
 pub record EachPointInOneSheet : Type 0 where
   pub inside :
       (s : ℕ) (e n : ℤ) → isScale s ≡ true → owns area e n ≡ true →
@@ -92,8 +89,7 @@ pub record StepAndOffset : Type 0 where
       (n : ℕ) (east south : ℤ) (k : ℕ) → step n east south ≡ answer k → offset n k ≡ answer (record { east = east; south = south })
 
 pub record NeighboursAreAround : Type 0 where
-  -- "a block of three rows of three, the sheet itself in the middle, rows from the north, each from the west, places off the grid marked
-  -- as none"
+  -- "three rows of three, the sheet itself in the middle, rows from the north, each from the west, places off the grid marked as none"
   pub of-sheet :
       (n : ℕ) → isSheet n ≡ true → neighbours n ≡
       (orNone (step n (negsuc 0) (negsuc 0)) ∷ orNone (step n (pos 0) (negsuc 0)) ∷ orNone (step n (pos 1) (negsuc 0)) ∷ []) ∷
