@@ -1,6 +1,6 @@
 -- A line of a cascade gives its own refusal or what the next line gives, so a cascade gives the refusals of its lines. Assumes nothing.
-use mathlib.Core.Path.{_≡_}
-use mathlib.Core.Bool.{Bool, true, false, cond, _||_}
+use mathlib.Core.Path.{_≡_, refl, sym}
+use mathlib.Core.Bool.{Bool, true, false, false≢true, cond, _||_}
 use mathlib.Core.List.{List, [], _∷_}
 use Prim.Native.Nat.{ℕ, zero, suc, _+_}
 use lib.Dec.{leb}
@@ -11,7 +11,7 @@ use Rattle.division.specs.Words.{_≤?_, _<?_, _=?_}
 use Rattle.division.specs.Table.{isScale, made}
 use Rattle.division.specs.declared.Edges.{Edges}
 use Rattle.division.specs.Grid.{area, within}
-use Rattle.division.specs.Sheet.{scaleOf}
+use Rattle.division.specs.Sheet.{isSheet, scaleOf}
 use Rattle.division.specs.Cover.{sheetsIn, isWindow, coverable}
 use Rattle.label.specs.Label.{inRange, scaleWith, wellFormed, numbersIn, sheetNamed, readLabel}
 use Rattle.catalogue.specs.Line.{labelIn, hasName, nameIn, isName, withName, readLine}
@@ -19,47 +19,43 @@ use Rattle.shelf.specs.Number.{highs, readNumber}
 use Rattle.shelf.specs.Kind.{Kind}
 use Rattle.shelf.specs.Writing.{setIn}
 use Rattle.shelf.specs.Reading.{Reading, _thenRead_, entriesIn}
-use Rattle.demands.specs.Demands.{isIn, Gives, answers, refuses, needs}
+use Rattle.demands.specs.Refusals.{isIn, Gives, answers, refuses}
 
 -- ---- the lines of a cascade
 
 module _ {listed : List ℕ} where
   pub test-gives : (n : ℕ) (test : Bool) → isIn listed n ≡ true → Gives listed (refuse n unless test)
   test-gives n true i = answers
-  test-gives n false i = refuses i
+  test-gives n false i = refuses i (λ c. refl)
 
   pub then-gives : {A : Type 0} {p : Paper Unit} {next : Paper A} → Gives listed p → Gives listed next → Gives listed (p >> next)
   then-gives answers g = g
-  then-gives (refuses i) g = refuses i
-  then-gives (needs i) g = needs i
+  then-gives (refuses i c) g = refuses i c
 
   pub line-gives : {A : Type 0} {next : Paper A} (n : ℕ) (test : Bool) → isIn listed n ≡ true → Gives listed next → Gives listed ((refuse n unless test) >> next)
   line-gives n test i g = then-gives (test-gives n test i) g
 
   pub found-gives : {A B : Type 0} {p : Paper A} {next : A → Paper B} → Gives listed p → ((a : A) → Gives listed (next a)) → Gives listed (p >>= next)
   found-gives (answers {a}) h = h a
-  found-gives (refuses i) h = refuses i
-  found-gives (needs i) h = needs i
+  found-gives (refuses i c) h = refuses i c
 
   pub read-gives : {A : Type 0} {p : Paper A} (next : A → Reading) → Gives listed p → ((a : A) → Gives listed (next a .ended)) → Gives listed ((p thenRead next) .ended)
   read-gives next (answers {a}) h = h a
-  read-gives next (refuses i) h = refuses i
-  read-gives next (needs i) h = needs i
+  read-gives next (refuses i c) h = refuses i c
 
   pub room-gives : (needed room : ℕ) → isIn listed 10 ≡ true → Gives listed (roomFor needed room)
   room-gives needed room i = by (leb needed room)
     where
       by : (fits : Bool) → Gives {A = Unit {0}} listed (refuse 10 at needed unless fits)
       by true = answers
-      by false = needs i
+      by false = refuses i (λ c. absurd (false≢true (sym c)))
 
   pub laid-gives : (items : List ℕ) (room : ℕ) → isIn listed 10 ≡ true → Gives listed (laid items room)
   laid-gives items room i = then-gives (room-gives (length items) room i) answers
 
   -- a refusal that is given is listed
   pub given-listed : {A : Type 0} {n v : ℕ} → Gives {A = A} listed (refused n v) → isIn listed n ≡ true
-  given-listed (refuses i) = i
-  given-listed (needs i) = i
+  given-listed (refuses i c) = i
 
   -- ---- what other questions ask for: a label, a set, the numbers of a list
 

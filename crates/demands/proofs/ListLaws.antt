@@ -19,7 +19,8 @@ use Rattle.shelf.specs.Reading.{Reading, entriesIn, readIn, readList}
 use Rattle.shelf.proofs.KindLaws.{sheets-count, sheets-over}
 use Rattle.shelf.proofs.ReadingLaws.{count-refused, count-room, count-read}
 use Rattle.shelf.proofs.NumberTheorems.{Bytes}
-use Rattle.demands.specs.Demands.{isIn, Gives, CountAbove, isByte}
+use Rattle.demands.specs.Refusals.{isIn, Gives}
+use Rattle.demands.specs.Lists.{CountAbove, isByte}
 use Rattle.demands.proofs.GivesLaws.{test-gives, given-listed, number-gives, entries-give}
 
 -- a count above the room gives 10

@@ -8,11 +8,12 @@ use native.Mathlib.Omega.{arith}
 use borrow.Author.Tests.{lt-leb, eq-eqb, eqb-true}
 use lib.ListN.{length, drop}
 use lib.Seq.{take-at, drop-at}
-use Rattle.refusal.specs.Paper.{Paper, refused, refuse_unless_, _>>_, laid, roomAfter}
+use Rattle.refusal.specs.Paper.{Paper, refused, _>>_, laid, roomAfter}
 use Rattle.refusal.proofs.PaperLaws.{differs, same-number, same-value, laid-fits, laid-answered}
 use Rattle.division.specs.Words.{_=?_}
 use Rattle.division.proofs.TestLaws.{le-or-less}
-use Rattle.demands.specs.Demands.{isIn, Gives, answers, refuses, needs, Fills, KeepsRoom}
+use Rattle.demands.specs.Refusals.{isIn, Gives, answers, refuses}
+use Rattle.demands.specs.Room.{Fills, KeepsRoom}
 
 -- items in the front of a room
 pub fills : (room items : List ℕ) → length items ≤ length room → Fills room items (items ++ drop (length items) room)
@@ -52,15 +53,10 @@ refused-keeps n v f =
     let not-10 : (w : ℕ) → _≡_ {A = Paper (List ℕ)} (refused n v) (refused 10 w) → ⊥ = λ w e. false≢true (sym f ∙ eq-eqb n 10 (same-number e)) in
     record { refusal = λ room m w e. refl; filled = λ room xs e. absurd (differs (sym e)); short = λ room w e. absurd (not-10 w e); needed = λ room w e. absurd (not-10 w e) }
 
-pub line-keeps : (n : ℕ) (test : Bool) (next : ℕ → Paper (List ℕ)) → (n =? 10) ≡ false → KeepsRoom next → KeepsRoom (λ room. (refuse n unless test) >> next room)
-line-keeps n true next f k = k
-line-keeps n false next f k = refused-keeps n 0 f
-
 pub then-keeps : {listed : List ℕ} {p : Paper Unit} (next : ℕ → Paper (List ℕ)) → Gives listed p → isIn listed 10 ≡ false → KeepsRoom next → KeepsRoom (λ room. p >> next room)
 then-keeps next answers f k = k
-then-keeps {listed} next (refuses {number} i) f k = refused-keeps number 0 (differ (number =? 10) refl)
+then-keeps {listed} next (refuses {number} {value} i c) f k = refused-keeps number value (differ (number =? 10) refl)
   where
     differ : (same : Bool) → (number =? 10) ≡ same → same ≡ false
     differ true e = sym (sym f ∙ ap (isIn listed) (sym (eqb-true number 10 e)) ∙ i)
     differ false e = refl
-then-keeps next (needs i) f k = absurd (false≢true (sym f ∙ i))

@@ -50,8 +50,9 @@ pub record Rules (s : ℕ) : Type 0 where
   pub few : sheets s ≤ 6_000_000
   pub low : first s + sheets s ≤ 7_953_174
   pub few-parts : side s ≤ 25
-  -- the parent comes before
+  -- the parent comes before, and there is one from scale 4 on
   pub above : parentScale s < s
+  pub has-parent : (1 ≤? parentScale s) ≡ (4 ≤? s)
   pub grows : made s ≡ grown s (parentScale s)
   pub sound : Sound (made s)
   -- the width tells the scale

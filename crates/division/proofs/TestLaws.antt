@@ -12,11 +12,18 @@ use mir.Syntax.{w64}
 use mir.Val.{SFits, toZ, ofZ}
 use mir.Facts.{toZ-ofZ}
 use mir.ValLaws.{toZ-pos}
+use Rattle.division.specs.Words.{_≤?_, between}
 use Rattle.division.specs.Given.{Rising}
 
 pub both : (a b : Bool) → (a && b) ≡ true → (a ≡ true) × (b ≡ true)
 both true b e = (refl, e)
 both false b e = let z : _≡_ {A = ℕ} 0 1 = cc in absurd (omega arith)
+
+pub in-between : (low high x : ℕ) → low ≤ x → x ≤ high → between low high x ≡ true
+in-between low high x a b = rw (le-leb low x a, le-leb x high b)
+
+pub between-in : (low high x : ℕ) → between low high x ≡ true → (low ≤ x) × (x ≤ high)
+between-in low high x e = let b = both (low ≤? x) (x ≤? high) e in (leb-true low x (b .0), leb-true x high (b .1))
 
 pub le-or-less : (a b : ℕ) → (a ≤ b) ⊎ (b < a)
 le-or-less zero b = inl (omega arith)

@@ -6,11 +6,10 @@ use Prim.Native.Nat.{ℕ, zero, suc, _+_, _/_, _%_}
 use native.Mathlib.Omega.{arith}
 use lib.ListN.{length}
 use Rattle.division.specs.Words.{_≤?_, _=?_}
-use Rattle.division.proofs.TestLaws.{both}
+use Rattle.division.proofs.TestLaws.{both, in-between}
 use Rattle.label.specs.Text.{every, digits, withoutZeros, decimal}
 use Rattle.label.specs.Label.{isLabelByte}
 use Rattle.label.specs.Given.{behind}
-use Rattle.label.proofs.FieldLaws.{in-between}
 use Rattle.label.proofs.SpellLaws.{Digits, digits-append}
 
 -- ---- digits

@@ -7,20 +7,13 @@ use native.Mathlib.Nat.{mod-lt}
 use native.Mathlib.Omega.{arith}
 use lib.Arith.{digits-lt}
 use lib.ListN.{length, getD, drop}
-use borrow.Author.Tests.{le-leb, leb-true}
 use Rattle.division.specs.declared.Place.{Place}
-use Rattle.division.specs.Words.{_≤?_, between}
+use Rattle.division.specs.Words.{between}
 use Rattle.division.specs.Table.{Made, ofArea, ofScale, rowsOf, columnsOf}
 use Rattle.division.specs.Sheet.{numberIn, parentPlace, partIndex, indexAt, placeAt}
-use Rattle.division.proofs.TestLaws.{both}
+use Rattle.division.proofs.TestLaws.{both, in-between, between-in}
 use Rattle.division.proofs.MadeLaws.{Sound, On, place, quot, number-few, child-parent, parent-child, number-child, on-parent, left-one, left-few}
 use Rattle.label.specs.Label.{fieldsOf, inRange, placeFrom, countOf}
-
-pub in-between : (low high x : ℕ) → low ≤ x → x ≤ high → between low high x ≡ true
-in-between low high x a b = rw (le-leb low x a, le-leb x high b)
-
-pub between-in : (low high x : ℕ) → between low high x ≡ true → (low ≤ x) × (x ≤ high)
-between-in low high x e = let b = both (low ≤? x) (x ≤? high) e in (leb-true low x (b .0), leb-true x high (b .1))
 
 -- ---- from a place to its fields
 

@@ -17,7 +17,7 @@ use Rattle.division.specs.Table.{Made, ofArea, ofScale, table, tableRow, rowsOf
 use Rattle.division.specs.Sheet.{isSheet, scaleOf, placeOf, sheetOf, parentPlace}
 use Rattle.division.specs.Given.{IsScale, OnGrid}
 use Rattle.division.specs.Theorems.{SameGround}
-use Rattle.division.proofs.TestLaws.{both}
+use Rattle.division.proofs.TestLaws.{both, between-in}
 use Rattle.division.proofs.MadeLaws.{Sound, On, number-few, on-parent}
 use Rattle.division.proofs.TableLaws.{Each, each, rules, scale, is-scale}
 use Rattle.division.proofs.NumberLaws.{on-grid, sheet-place, scale-sheet, place-sheet, is-sheet}
@@ -26,7 +26,7 @@ use Rattle.label.specs.Text.{every, split, join, value, digits, withoutZ
 use Rattle.label.specs.Label.{markOf, fieldsOf, countOf, inRange, placeFrom, scaleWith, scaleNamed, isLabelByte, isField, wellFormed, numbersIn, sheetNamed, readLabel, labelOf}
 use Rattle.label.proofs.ValueLaws.{value-decimal}
 use Rattle.label.proofs.SplitLaws.{FreeAll, split-join, join-split}
-use Rattle.label.proofs.FieldLaws.{between-in, count-fields, place-fields, range-fields, on-from, fields-place}
+use Rattle.label.proofs.FieldLaws.{count-fields, place-fields, range-fields, on-from, fields-place}
 use Rattle.label.proofs.LengthLaws.{Short, sizes}
 use Rattle.label.proofs.ByteLaws.{decimal-digits}
 use Rattle.label.proofs.SpellLaws.{digits-free, pieces, pieces-spelt}

@@ -14,6 +14,7 @@ use Rattle.division.specs.declared.table.Row.{Row}
 use Rattle.division.specs.Table.{Made, ofScale, made, rows, columns, parentScale, side, sheets, first, codeRow}
 use Rattle.division.specs.Sheet.{indexAt, partIndex}
 use Rattle.division.specs.Given.{IsScale}
+use Rattle.division.proofs.TestLaws.{between-in}
 use Rattle.division.proofs.MadeLaws.{Sound, sheetsOf, index<}
 use Rattle.division.proofs.TableLaws.{rules}
 use Rattle.division.proofs.FamilyLaws.{top, deep, above, parted, sheets-by, each-few, square-few}
@@ -21,7 +22,7 @@ use Rattle.label.specs.declared.reading.Reckoned.{Reckoned}
 use Rattle.label.specs.declared.reading.Reckoned.the-variants.{At, Out}
 use Rattle.label.specs.Label.{countOf, inRange, placeFrom, sheetNamed}
 use Rattle.label.specs.Given.{Fields, reckon, reckonArea, reckonBelow, Below}
-use Rattle.label.proofs.FieldLaws.{on-from, index-part, between-in}
+use Rattle.label.proofs.FieldLaws.{on-from, index-part}
 
 -- what is reckoned is an index of the scale
 pub reckon-few : (m : Made) (fs : List ℕ) {i : ℕ} → Sound m → reckon m fs ≡ At i → i < sheetsOf m

@@ -10,12 +10,12 @@ use borrow.Author.Tests.{le-leb, lt-leb, ne-eqb}
 use lib.ListN.{length, getD, drop, set, replicate, length-append, length-replicate, drop-of-length-le}
 use lib.Seq.{drop-cons, append-snoc, set-at, take-at}
 use Rattle.division.specs.Words.{between}
+use Rattle.division.proofs.TestLaws.{in-between}
 use Rattle.label.specs.Text.{every, onFirst, split, value}
 use Rattle.label.specs.Label.{isLabelByte, isField, wellFormed}
 use Rattle.label.specs.Given.{numbersOf, Held}
 use Rattle.label.proofs.ValueLaws.{value-snoc}
 use Rattle.label.proofs.SplitLaws.{split-last, split-piece}
-use Rattle.label.proofs.FieldLaws.{in-between}
 use Rattle.label.proofs.SpellLaws.{Digits, digits-append, digits-free}
 
 -- ---- bytes

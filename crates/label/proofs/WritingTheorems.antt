@@ -6,10 +6,10 @@ use native.Mathlib.Omega.{arith}
 use lib.ListN.{length}
 use Rattle.division.specs.Words.{between}
 use Rattle.division.specs.Sheet.{isSheet, scaleOf, indexOf}
+use Rattle.division.proofs.TestLaws.{in-between}
 use Rattle.label.specs.Text.{every, decimal}
 use Rattle.label.specs.Label.{isLabelByte, markOf, labelOf}
 use Rattle.label.specs.Given.{behind, indexFields}
-use Rattle.label.proofs.FieldLaws.{in-between}
 use Rattle.label.proofs.LengthLaws.{label-is, label-low, label-high}
 use Rattle.label.proofs.ByteLaws.{plain-append, decimal-plain, behind-plain}
 

@@ -9,9 +9,9 @@ use lib.ListN.{length, getD}
 use Rattle.refusal.specs.Paper.{answer}
 use Rattle.refusal.proofs.PaperLaws.{fails, holds}
 use Rattle.division.specs.Words.{between}
+use Rattle.division.proofs.TestLaws.{between-in}
 use Rattle.label.specs.Label.{scaleNamed, wellFormed, readLabel}
 use Rattle.label.specs.Given.{numbersOf, scalePaper}
-use Rattle.label.proofs.FieldLaws.{between-in}
 use Rattle.label.proofs.NamedLaws.{scaleFrom, read-numbers, read-none, read-empty, fields-named, read-named, first-held, others-held}
 use Rattle.label.proofs.reading.read_label.Statement.{statement}
 use Rattle.label.proofs.reading.read_label.Tie as tie

@@ -1,0 +1,43 @@
+-- Each question gives only the refusals listed for it: they are those of the lines of its definition. Assumes nothing.
+use mathlib.Core.Path.{refl}
+use Rattle.division.specs.Words.{_≤?_, _=?_}
+use Rattle.division.specs.Table.{rows, columns, isScale, parentScale}
+use Rattle.division.specs.Grid.{area, owns}
+use Rattle.division.specs.Sheet.{isSheet, scaleOf, placeOf, onGrid, locate, sheetOn, sheetAt, cornersOf}
+use Rattle.division.specs.Relations.{isPart, parent, child, stays, walk, step, offset}
+use Rattle.division.specs.Cover.{sheetsIn, cover, blockIn}
+use Rattle.label.specs.Label.{labelOf, writeLabel, labelLength}
+use Rattle.shelf.specs.Kind.{ofSheets}
+use Rattle.shelf.specs.Writing.{listBytes, writeIn, lengthIn}
+use Rattle.shelf.specs.Reading.{behindIn, readIn}
+use Rattle.demands.specs.Refusals.{answers, RefusalsNumbered}
+use Rattle.demands.proofs.GivesLaws.{test-gives, then-gives, line-gives, read-gives, room-gives, laid-gives, label-gives, line-of-gives, cover-gives, set-gives, number-gives, entries-give}
+
+pub refusals-numbered : RefusalsNumbered
+unfolding sheetAt locate sheetOn cornersOf parent child step walk offset cover blockIn writeLabel labelLength writeIn lengthIn readIn behindIn
+refusals-numbered = record {
+  points = λ s e n. line-gives 2 (isScale s) refl (line-gives 1 (owns area e n) refl answers);
+  corners = λ n. line-gives 3 (isSheet n) refl answers;
+  located = λ n. line-gives 3 (isSheet n) refl answers;
+  places = λ s p. line-gives 2 (isScale s) refl (line-gives 6 (onGrid s p) refl answers);
+  parents = λ n. line-gives 3 (isSheet n) refl (line-gives 6 (1 ≤? parentScale (scaleOf n)) refl answers);
+  children = λ n s number. line-gives 3 (isSheet n) refl (line-gives 2 (isScale s) refl (line-gives 6 (isPart s (scaleOf n) number) refl answers));
+  steps = λ n east south.
+      let c = stays (placeOf n .column) east (columns (scaleOf n)) in
+      let r = stays (placeOf n .row) south (rows (scaleOf n)) in
+      line-gives 3 (isSheet n) refl (line-gives 6 c refl (line-gives 6 r refl answers));
+  offsets = λ a b. line-gives 3 (isSheet a) refl (line-gives 3 (isSheet b) refl (line-gives 6 (scaleOf a =? scaleOf b) refl answers));
+  covers = λ s w room. then-gives (cover-gives refl refl refl refl s w) (laid-gives (sheetsIn s w) room refl);
+  blocks = λ s w. then-gives (cover-gives refl refl refl refl s w) answers;
+  labels = label-gives refl refl;
+  labelled = λ n room. line-gives 3 (isSheet n) refl (laid-gives (labelOf n) room refl);
+  measured = λ n. line-gives 3 (isSheet n) refl answers;
+  lines = line-of-gives refl refl refl refl;
+  lists = λ sheets room. then-gives (set-gives ofSheets (λ n. test-gives 3 (isSheet n) refl) refl refl sheets) (laid-gives (listBytes sheets) room refl);
+  sized = λ sheets. then-gives (set-gives ofSheets (λ n. test-gives 3 (isSheet n) refl) refl refl sheets) answers;
+  reading = λ bytes room.
+      read-gives _ (number-gives refl refl bytes) λ first.
+      read-gives _ (line-gives 12 (first .value ≤? 4_096) refl answers) λ count.
+      read-gives _ (room-gives count room refl) λ fit.
+      entries-give ofSheets (λ n. test-gives 13 (isSheet n) refl) refl refl refl count 0 (first .rest);
+}
