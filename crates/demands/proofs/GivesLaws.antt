@@ -11,7 +11,7 @@ use Rattle.division.specs.Words.{_≤?_, _<?_, _=?_}
 use Rattle.division.specs.Table.{isScale, made}
 use Rattle.division.specs.declared.Edges.{Edges}
 use Rattle.division.specs.Grid.{area, within}
-use Rattle.division.specs.Sheet.{isSheet, scaleOf}
+use Rattle.division.specs.Sheet.{scaleOf}
 use Rattle.division.specs.Cover.{sheetsIn, isWindow, coverable}
 use Rattle.label.specs.Label.{inRange, scaleWith, wellFormed, numbersIn, sheetNamed, readLabel}
 use Rattle.catalogue.specs.Line.{labelIn, hasName, nameIn, isName, withName, readLine}
