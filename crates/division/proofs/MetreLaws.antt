@@ -1,5 +1,5 @@
 -- Every edge of every sheet is a whole number of hundred metres: the area's edges are, and so is every width and height. Assumes nothing.
-use mathlib.Core.Path.{_≡_, refl, sym, ap, _∙_}
+use mathlib.Core.Path.{_≡_, sym, ap, _∙_}
 use mathlib.Core.Bool.{true}
 use Prim.Native.Nat.{ℕ, _+_, _-_, _*_, _/_, _≤_}
 use native.Mathlib.Nat.{mul-assoc}
@@ -38,7 +38,7 @@ record Sized (s : ℕ) : Type 0 where
 
 nine : Each Sized 9
 unfolding table tableRow
-nine = search (refl, tt)
+nine = search tt
 
 -- so many times such a size
 times : (k size : ℕ) → size ≡ size / 100 * 100 → k * millimetres size ≡ k * (size / 100) * 100_000

@@ -2,3 +2,6 @@ pub mod WriteLaws
 pub mod WordLaws
 pub mod FeedLaws
 pub mod RowTheorems
+pub mod PartLaws
+pub mod TurnLaws
+pub mod RunLaws

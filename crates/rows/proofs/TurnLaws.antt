@@ -1,0 +1,210 @@
+-- A turn is one of the definition's cases, and its rows with those of what is held then are the rows of all that was held. Assumes nothing.
+use mathlib.Core.Path.{_≡_, refl, sym, ap, _∙_}
+use mathlib.Core.Bool.{Bool, true, false, cond, _&&_}
+use mathlib.Core.List.{List, [], _∷_, _++_}
+use mathlib.Core.Logic.{⊎-elim}
+use Prim.Native.Nat.{ℕ, _+_, _-_, _*_, _≤_, _<_, _^_, min}
+use native.Mathlib.Omega.{arith}
+use borrow.Author.Tests.{le-leb, lt-leb, leb-true}
+use lib.ListN.{length, take, drop, length-take, length-drop}
+use lib.Seq.{slice, take-append-seam, drop-drop, length-take-le}
+use Rattle.refusal.specs.Paper.{answer, roomAfter}
+use Rattle.division.specs.Words.{_≤?_, _=?_}
+use Rattle.division.proofs.TestLaws.{both, le-or-less}
+use Rattle.label.proofs.SplitLaws.{Free}
+use Rattle.rows.specs.declared.run.State.{State}
+use Rattle.rows.specs.Program.{endedLines, lineOf, linesOf, outputFrom}
+use Rattle.rows.specs.declared.feed.Fed.{Fed}
+use Rattle.rows.specs.Given.{Wrote, linesDone, takenBy, IsFed}
+use Rattle.rows.specs.Run.{Turn, state, goesOn, stopped, waiting, going, turnOf, Turned}
+use Rattle.rows.proofs.WriteLaws.{wrote-front, wrote-end}
+use Rattle.rows.proofs.PartLaws.{held-is}
+use Rattle.rows.proofs.RowTheorems.{fed-front, block-by-block, all-fed, free-take, keeps-enough}
+
+-- ---- room and numbers
+
+pub record On (size room number : ℕ) : Type 0 where
+  pub holds : 67 ≤ size
+  pub row : 64 ≤ room
+  pub few : number ≤ 2 ^ 64 - 1 - size
+
+pub on-is : (size room number : ℕ) → goesOn size room number ≡ true → On size room number
+on-is size room number e =
+    let a = both (67 ≤? size && 64 ≤? room) (number ≤? 2 ^ 64 - 1 - size) e in
+    let c = both (67 ≤? size) (64 ≤? room) (a .0) in
+    record { holds = leb-true 67 size (c .0); row = leb-true 64 room (c .1); few = leb-true number (2 ^ 64 - 1 - size) (a .1) }
+
+-- ---- the lines of what is held, and what a turn makes of them
+
+module _ (room number : ℕ) (held : List ℕ) where
+  abbrev pub done : List (List ℕ)
+  done = linesDone room number (endedLines held)
+
+  abbrev pub rows : List ℕ
+  rows = outputFrom number done
+
+  abbrev pub rest : List ℕ
+  rest = drop (takenBy done) held
+
+-- got bytes stand behind what was held
+abbrev pub heldWith : State → ℕ → List ℕ → List ℕ
+heldWith s got buf = slice (s .from) (s .end + got) buf
+
+module _ (buf : List ℕ) (room : ℕ) (s : State) (got : ℕ) where
+  abbrev held : List ℕ
+  held = heldWith s got buf
+
+  pub turn-stops : goesOn (length buf) room (s .number) ≡ false → turnOf buf room s got ≡ stopped (s .number) []
+  unfolding turnOf
+  turn-stops h = rw h
+
+  module _ (h : goesOn (length buf) room (s .number) ≡ true) where
+    pub turn-ends : (s .wants && got =? 0) ≡ true → turnOf buf room s got ≡ stopped (s .number) (outputFrom (s .number) (lineOf (heldWith s got buf)))
+    unfolding turnOf
+    turn-ends t = rw (h, t)
+
+    pub turn-waits : (s .wants && got =? 0) ≡ false → 64 ≤ room - length (rows room (s .number) (heldWith s got buf))
+        → turnOf buf room s got ≡ waiting (s .number + length (done room (s .number) (heldWith s got buf))) (rows room (s .number) (heldWith s got buf)) (rest room (s .number) (heldWith s got buf))
+    unfolding turnOf
+    turn-waits t k = rw (h, t, le-leb 64 (room - length (rows room (s .number) held)) k)
+
+    pub turn-goes : (s .wants && got =? 0) ≡ false → room - length (rows room (s .number) (heldWith s got buf)) < 64
+        → turnOf buf room s got ≡ going (s .number + length (done room (s .number) (heldWith s got buf))) (rows room (s .number) (heldWith s got buf)) (rest room (s .number) (heldWith s got buf)) (length (take (s .end + got) buf))
+    unfolding turnOf
+    turn-goes t k = rw (h, t, lt-leb 64 (room - length (rows room (s .number) held)) k)
+
+  -- the rows of a turn are what is to be written
+  pub turn-written : turnOf buf room s got .next .written ≡ length (turnOf buf room s got .rows)
+  unfolding turnOf
+  turn-written = by (goesOn (length buf) room (s .number)) (s .wants && got =? 0) (64 ≤? room - length (rows room (s .number) held))
+    where
+      by : (a b c : Bool) → cond a (cond b (stopped (s .number) (outputFrom (s .number) (lineOf held))) (cond c (waiting (s .number + length (done room (s .number) held)) (rows room (s .number) held) (rest room (s .number) held)) (going (s .number + length (done room (s .number) held)) (rows room (s .number) held) (rest room (s .number) held) (length (take (s .end + got) buf))))) (stopped (s .number) []) .next .written ≡ length (cond a (cond b (stopped (s .number) (outputFrom (s .number) (lineOf held))) (cond c (waiting (s .number + length (done room (s .number) held)) (rows room (s .number) held) (rest room (s .number) held)) (going (s .number + length (done room (s .number) held)) (rows room (s .number) held) (rest room (s .number) held) (length (take (s .end + got) buf))))) (stopped (s .number) []) .rows)
+      by true true c = refl
+      by true false true = refl
+      by true false false = refl
+      by false b c = refl
+
+-- ---- each way out of a turn
+
+pub turned-same : {t : Turn} {buf b out o : List ℕ} {q r : State} → q ≡ r → Turned t buf b out o r → Turned t buf b out o q
+turned-same e m = rw e m
+
+module _ (buf out : List ℕ) (s : State) (got : ℕ) where
+  abbrev bytes : List ℕ
+  bytes = heldWith s got buf
+
+  pub turned-stops : goesOn (length buf) (length out) (s .number) ≡ false → Turned (turnOf buf (length out) s got) buf buf out out (state 0 0 (s .number) 0 false true)
+  turned-stops h = rw (turn-stops buf (length out) s got h) (record { next = refl; kept = refl; rows = refl; held = omega arith; fits = omega arith })
+
+  module _ (h : goesOn (length buf) (length out) (s .number) ≡ true) where
+    pub turned-ends : {o : List ℕ} {w : ℕ} → (s .wants && got =? 0) ≡ true → Wrote out 0 o w (outputFrom (s .number) (lineOf (heldWith s got buf)))
+        → Turned (turnOf buf (length out) s got) buf buf out o (state 0 0 (s .number) w false true)
+    turned-ends t k = rw (turn-ends buf (length out) s got h t, wrote-end k) (record { next = refl; kept = refl; rows = wrote-front k; held = omega arith; fits = omega (arith, wrote-end k, k .fits) })
+
+    module _ (t : (s .wants && got =? 0) ≡ false) {o : List ℕ} {f : Fed} (k : IsFed (heldWith s got buf) (s .number) out o f) (e a : ℕ) (p : e ≡ min (s .end + got) (length buf)) (q : a ≡ min (s .from) e) where
+      ends : length (take (s .end + got) buf) ≡ e
+      ends = length-take (s .end + got) buf ∙ sym p
+
+      long : length bytes ≡ e - s .from
+      long = length-drop (s .from) (take (s .end + got) buf) ∙ ap (λ (n : ℕ). n - s .from) ends
+
+      pub turned-goes : length out - f .written < 64 → Turned (turnOf buf (length out) s got) buf buf out o (state (a + f .used) e (f .number) (f .written) false false)
+      turned-goes l =
+          let w = wrote-end (k .wrote) in
+          let left = length-drop (takenBy (done (length out) (s .number) bytes)) bytes in
+          let from : a + f .used ≡ e - length (rest (length out) (s .number) bytes) = omega (arith, long, left, k .used, k .within) in
+          rw (turn-goes buf (length out) s got h t (omega (arith, w)), ends, ← from, k .next, w) (record { next = refl; kept = refl; rows = wrote-front (k .wrote); held = omega arith; fits = omega (arith, w, k .wrote .fits) })
+
+      pub turned-waits : {b : List ℕ} {n : ℕ} → 64 ≤ length out - f .written → Wrote buf 0 b n (take 66 (slice (a + f .used) e buf))
+          → Turned (turnOf buf (length out) s got) buf b out o (state 0 n (f .number) (f .written) true false)
+      turned-waits l v =
+          let w = wrote-end (k .wrote) in
+          let there : slice (a + f .used) e buf ≡ rest (length out) (s .number) bytes = sym (drop-drop (f .used) a (take e buf)) ∙ ap (λ (l : List ℕ). drop (f .used) l) (held-is buf (s .from) (s .end + got) a e p q) ∙ rw (k .used) in
+          let x = rw there at v in
+          rw (turn-waits buf (length out) s got h t (omega (arith, w)), k .next, w, wrote-end x) (record { next = refl; kept = wrote-front x; rows = wrote-front (k .wrote); held = omega (arith, wrote-end x, x .fits); fits = omega (arith, w, k .wrote .fits) })
+
+-- ---- a turn prints what it should
+
+-- the buffer behind a turn, and what a state holds in it
+abbrev pub after : Turn → List ℕ → List ℕ
+after t buf = roomAfter (answer (t .kept)) buf
+
+abbrev pub heldBy : State → List ℕ → List ℕ
+heldBy s buf = slice (s .from) (s .end) buf
+
+-- where input is wanted, what is held has no line feed and leaves room for more
+pub record Calm (s : State) (buf : List ℕ) : Type 0 where
+  pub free : Free 10 (heldBy s buf)
+  pub few : s .end ≤ 66
+
+abbrev pub unasked : Bool → ℕ
+unasked true = 0
+unasked false = 1
+
+-- a turn that is not the last: its rows and those of what is held then, with whatever follows, are the rows of all that was held
+pub record Onward (number : ℕ) (bytes : List ℕ) (size : ℕ) (t : Turn) (buf : List ℕ) : Type 0 where
+  pub whole : (ys : List ℕ) → outputFrom number (linesOf (bytes ++ ys)) ≡ t .rows ++ outputFrom (t .next .number) (linesOf (heldBy (t .next) buf ++ ys))
+  pub on : t .next .over ≡ false
+  pub calm : t .next .wants ≡ true → Calm (t .next) buf
+  pub rises : t .next .from ≤ t .next .end
+  pub within : t .next .end ≤ size
+  pub numbered : t .next .number + (t .next .end - t .next .from) ≤ number + length bytes
+  pub less : 2 * (t .next .end - t .next .from) + unasked (t .next .wants) ≤ 2 * length bytes
+
+module _ (room number : ℕ) (bytes buf : List ℕ) where
+  waits : 67 ≤ length buf → 64 ≤ room - length (rows room number bytes)
+      → Onward number bytes (length buf) (waiting (number + length (done room number bytes)) (rows room number bytes) (rest room number bytes)) (after (waiting (number + length (done room number bytes)) (rows room number bytes) (rest room number bytes)) buf)
+  waits sized k =
+      let r = rest room number bytes in
+      let d = done room number bytes in
+      let f = all-fed room number bytes k in
+      let front = fed-front room number bytes in
+      let kept : take (length (take 66 r)) (take 66 r ++ drop (length (take 66 r)) buf) ≡ take 66 r = take-append-seam (take 66 r) (drop (length (take 66 r)) buf) in
+      let long = length-take 66 r in
+      let left = length-drop (takenBy d) bytes in
+      record {
+        whole = λ ys. block-by-block room number bytes ys ∙ ap (λ (l : List ℕ). rows room number bytes ++ l) (sym (keeps-enough (number + length d) r ys f) ∙ rw kept);
+        on = refl;
+        calm = λ e. record { free = rw kept (free-take 10 66 r f); few = omega (arith, long) };
+        rises = omega arith;
+        within = omega (arith, long);
+        numbered = omega (arith, long, left, front .many, front .within);
+        less = omega (arith, long, left, front .within);
+      }
+
+  -- rows that fill the room are those of some line
+  some-taken : (lines : List (List ℕ)) → 64 ≤ room → room - length (outputFrom number lines) < 64 → 1 ≤ takenBy lines
+  unfolding takenBy outputFrom
+  some-taken [] h k = absurd (omega arith)
+  some-taken (line ∷ lines) h k = omega arith
+
+  goes : (from m : ℕ) → from ≤ m → m ≤ length buf → bytes ≡ slice from m buf → 64 ≤ room → room - length (rows room number bytes) < 64
+      → Onward number bytes (length buf) (going (number + length (done room number bytes)) (rows room number bytes) (rest room number bytes) (length (take m buf))) buf
+  goes from m l w e roomy k =
+      let d = done room number bytes in
+      let r = rest room number bytes in
+      let front = fed-front room number bytes in
+      let long = length-take-le m buf w in
+      let size : length bytes ≡ m - from = ap length e ∙ length-drop from (take m buf) ∙ ap (λ (n : ℕ). n - from) long in
+      let left = length-drop (takenBy d) bytes in
+      let some = some-taken d roomy k in
+      let at : length (take m buf) - length r ≡ from + takenBy d = omega (arith, front .within) in
+      let kept : slice (length (take m buf) - length r) (length (take m buf)) buf ≡ r = rw (at, long) (sym (drop-drop (takenBy d) from (take m buf)) ∙ ap (λ (l : List ℕ). drop (takenBy d) l) (sym e)) in
+      record {
+        whole = λ ys. block-by-block room number bytes ys ∙ rw kept;
+        on = refl;
+        calm = λ e. let z : _≡_ {A = ℕ} 0 1 = cc in absurd (omega arith);
+        rises = omega arith;
+        within = omega arith;
+        numbered = omega (arith, front .many, front .within);
+        less = omega (arith, front .within);
+      }
+
+module _ (buf : List ℕ) (room : ℕ) (s : State) (got : ℕ) (h : goesOn (length buf) room (s .number) ≡ true) (t : (s .wants && got =? 0) ≡ false) where
+  pub turn-on : 67 ≤ length buf → 64 ≤ room → s .from ≤ s .end → s .end + got ≤ length buf
+      → Onward (s .number) (heldWith s got buf) (length buf) (turnOf buf room s got) (after (turnOf buf room s got) buf)
+  turn-on sized roomy rises within =
+      let bytes = heldWith s got buf in
+      ⊎-elim (λ k. rw (turn-waits buf room s got h t k) (waits room (s .number) bytes buf sized k))
+      (λ k. rw (turn-goes buf room s got h t k) (goes room (s .number) bytes buf (s .from) (s .end + got) (omega arith) within refl roomy k))
+      (le-or-less 64 (room - length (rows room (s .number) bytes)))
