@@ -14,9 +14,9 @@ use lib.Seq.{drop-append-add, take-append-le, take-take, take-all, length-take-l
 use Rattle.division.proofs.TestLaws.{le-or-less}
 use Rattle.label.proofs.SplitLaws.{Free}
 use Rattle.rows.specs.Program.{endedLines, lineOf, linesOf, outputLine, outputFrom}
-use Rattle.rows.specs.Given.{linesDone, takenBy}
+use Rattle.rows.specs.Given.{linesDone, takenBy, doneOf, rowsOf, restOf}
 use Rattle.rows.specs.declared.run.State.{State}
-use Rattle.rows.specs.Run.{Turn, Turned}
+use Rattle.rows.specs.Run.{Turned}
 use Rattle.catalogue.proofs.LineTheorems.{same-66}
 use Rattle.rows.proofs.FeedLaws.{Cut, ended, unfed, cut, lines-ended, lines-open, ended-more, ended-none, done-more, done-full, output-append}
 
@@ -61,15 +61,14 @@ done-first room n (line ∷ lines) = by (leb 64 room) (done-first (room - length
     by true r = (r .0, ap (λ (ls : List (List ℕ)). line ∷ ls) (r .1))
     by false r = (line ∷ lines, refl)
 
-pub fed-front : (room n : ℕ) (block : List ℕ) → Fronted (linesDone room n (endedLines block)) (done-first room n (endedLines block) .0) block
-fed-front room n block = fronted (linesDone room n (endedLines block)) (done-first room n (endedLines block) .0) block (done-first room n (endedLines block) .1)
+pub fed-front : (room n : ℕ) (block : List ℕ) → Fronted (doneOf room n block) (done-first room n (endedLines block) .0) block
+fed-front room n block = fronted (doneOf room n block) (done-first room n (endedLines block) .0) block (done-first room n (endedLines block) .1)
 
 -- "It reads catalogue lines .. For each it prints": what is printed for a block, and for what is left of it with whatever follows
 pub block-by-block : (room n : ℕ) (block ys : List ℕ)
-    → outputFrom n (linesOf (block ++ ys)) ≡ outputFrom n (linesDone room n (endedLines block)) ++ outputFrom (n + length (linesDone room n (endedLines block))) (linesOf (drop (takenBy (linesDone room n (endedLines block))) block ++ ys))
+    → outputFrom n (linesOf (block ++ ys)) ≡ rowsOf room n block ++ outputFrom (n + length (doneOf room n block)) (linesOf (restOf room n block ++ ys))
 block-by-block room n block ys =
-    let done = linesDone room n (endedLines block) in
-    rw (fed-front room n block .whole ys) (output-append n done (linesOf (drop (takenBy done) block ++ ys)))
+    rw (fed-front room n block .whole ys) (output-append n (doneOf room n block) (linesOf (restOf room n block ++ ys)))
 
 -- where room for one more row is left, every line is done
 all-done : (room n : ℕ) (lines : List (List ℕ)) → 64 ≤ room - length (outputFrom n (linesDone room n lines)) → linesDone room n lines ≡ lines
@@ -95,7 +94,7 @@ none-ended bytes e = by (cut bytes)
     by (ended line rest f q) = let s = sym (ended-more line rest f) ∙ ap endedLines (sym q) ∙ e in let z : _≡_ {A = ℕ} 0 1 = cc in absurd (omega arith)
 
 -- and no line feed is left
-pub all-fed : (room n : ℕ) (block : List ℕ) → 64 ≤ room - length (outputFrom n (linesDone room n (endedLines block))) → Free 10 (drop (takenBy (linesDone room n (endedLines block))) block)
+pub all-fed : (room n : ℕ) (block : List ℕ) → 64 ≤ room - length (rowsOf room n block) → Free 10 (restOf room n block)
 all-fed room n block h =
     rw (all-done room n (endedLines block) h) (none-ended (drop (takenBy (endedLines block)) block) (fronted (endedLines block) [] block (sym (append-nil (endedLines block))) .left))
 
@@ -147,5 +146,5 @@ last-counts n line f = rw (lines-open line f)
 
 -- ---- the promise of a turn leaves one answer
 
-pub one-turn : {t : Turn} {buf b c out o p : List ℕ} {r q : State} → Turned t buf b out o r → Turned t buf c out p q → (r ≡ q) × (b ≡ c) × (o ≡ p)
+pub one-turn : {s : State} {got : ℕ} {buf b c out o p : List ℕ} {r q : State} → Turned s got buf b out o r → Turned s got buf c out p q → (r ≡ q) × (b ≡ c) × (o ≡ p)
 one-turn v w = (v .next ∙ sym (w .next), v .kept ∙ sym (w .kept), v .rows ∙ sym (w .rows))

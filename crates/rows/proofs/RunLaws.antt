@@ -15,12 +15,12 @@ use Rattle.label.proofs.SplitLaws.{Free}
 use Rattle.rows.specs.declared.run.State.{State}
 use Rattle.rows.specs.declared.run.Printed.{Printed}
 use Rattle.rows.specs.Program.{lineOf, linesOf, outputFrom, printed}
-use Rattle.rows.specs.Given.{Wrote, Buffers, Some, Ready, Brought, Pours}
-use Rattle.rows.specs.Run.{Turn, start, goesOn, stopped, turnOf, Turned, poured, taken}
+use Rattle.rows.specs.Given.{Wrote, Buffers, Ready, Brought, Pours}
+use Rattle.rows.specs.Run.{Turn, start, goesOn, heldWith, stopped, turnOf, Turned, poured, taken}
 use Rattle.rows.proofs.WriteLaws.{same-long, wrote-none}
 use Rattle.rows.proofs.RowTheorems.{last-counts}
 use Rattle.rows.proofs.PartLaws.{drop-min}
-use Rattle.rows.proofs.TurnLaws.{heldWith, heldBy, after, Calm, unasked, Onward, turn-ends, turn-on, turn-written}
+use Rattle.rows.proofs.TurnLaws.{heldBy, after, Calm, unasked, Onward, turn-ends, turn-on, turn-written}
 
 -- ---- the sink
 
@@ -89,22 +89,22 @@ module _ (input : List ℕ) (a : ℕ) (s : State) (buf : List ℕ) (h : Ready a 
     ended = λ e z. let y : _≡_ {A = ℕ} 0 1 = cc in absurd (omega arith);
   }
 
-  pub brought-some : {b : List ℕ} {most n r : ℕ} → s .wants ≡ true → most ≡ min (length input - a) (length buf - s .end) → Some n most
+  pub brought-some : {b : List ℕ} {most n r : ℕ} → s .wants ≡ true → most ≡ min (length input - a) (length buf - s .end) → (n ≤ most) × (1 ≤ most → 1 ≤ n)
       → Wrote buf (s .end) b r (take (a + n - a) (drop a input)) → Brought input a s buf b n
   brought-some {b} {most} {n} {r} w m k v =
       let e : a + n - a ≡ n = omega arith in
       let x = rw e at v in
-      let long = length-take-le n (drop a input) (omega (arith, length-drop a input, k .few)) in
+      let long = length-take-le n (drop a input) (omega (arith, length-drop a input, k .0)) in
       let z : r ≡ s .end + n = x .end ∙ ap (λ (l : ℕ). s .end + l) long in
       record {
-        inside = omega (arith, h .inside, k .few);
+        inside = omega (arith, h .inside, k .0);
         wrote = rw z at x;
         idle = λ f. let y : _≡_ {A = ℕ} 0 1 = cc in absurd (omega arith);
         ended = λ f z. by f z;
       }
     where
       by : s .wants ≡ true → n ≡ 0 → a ≡ length input
-      by f z = ⊎-elim (λ l. omega (arith, h .inside)) (λ l. absurd (omega (arith, h .room f, k .some (omega (arith, h .room f))))) (le-or-less (length input) a)
+      by f z = ⊎-elim (λ l. omega (arith, h .inside)) (λ l. absurd (omega (arith, h .room f, k .1 (omega (arith, h .room f))))) (le-or-less (length input) a)
 
 -- what was read stands behind what was held
 module _ {input : List ℕ} {a : ℕ} {s : State} {buf b : List ℕ} {r : ℕ} (k : Brought input a s buf b r) (rises : s .from ≤ s .end) (within : s .end ≤ length buf) where
@@ -246,7 +246,7 @@ module _ {input sink₀ : List ℕ} {size room : ℕ} {buf out sink : List ℕ} 
         })
 
   -- a turn as the code made it, and what the sink took of its rows
-  module _ {b' out' : List ℕ} {s' : State} (m : Turned t b b' out out' s') (l : length b' ≡ length b) (n : length out' ≡ length out) where
+  module _ {b' out' : List ℕ} {s' : State} (m : Turned s r b b' out out' s') (l : length b' ≡ length b) (n : length out' ≡ length out) where
     pub run-less : toGo input s' (a + r) < toGo input s a
     run-less = rw (m .next) (by (s .wants && r =? 0) refl)
       where

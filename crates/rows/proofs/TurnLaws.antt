@@ -13,10 +13,10 @@ use Rattle.division.specs.Words.{_≤?_, _=?_}
 use Rattle.division.proofs.TestLaws.{both, le-or-less}
 use Rattle.label.proofs.SplitLaws.{Free}
 use Rattle.rows.specs.declared.run.State.{State}
-use Rattle.rows.specs.Program.{endedLines, lineOf, linesOf, outputFrom}
+use Rattle.rows.specs.Program.{lineOf, linesOf, outputFrom}
 use Rattle.rows.specs.declared.feed.Fed.{Fed}
-use Rattle.rows.specs.Given.{Wrote, linesDone, takenBy, IsFed}
-use Rattle.rows.specs.Run.{Turn, state, goesOn, stopped, waiting, going, turnOf, Turned}
+use Rattle.rows.specs.Given.{Wrote, takenBy, doneOf, rowsOf, restOf, IsFed}
+use Rattle.rows.specs.Run.{Turn, state, goesOn, heldWith, stopped, fed, turnOf, Turned}
 use Rattle.rows.proofs.WriteLaws.{wrote-front, wrote-end}
 use Rattle.rows.proofs.PartLaws.{held-is}
 use Rattle.rows.proofs.RowTheorems.{fed-front, block-by-block, all-fed, free-take, keeps-enough}
@@ -34,26 +34,9 @@ on-is size room number e =
     let c = both (67 ≤? size) (64 ≤? room) (a .0) in
     record { holds = leb-true 67 size (c .0); row = leb-true 64 room (c .1); few = leb-true number (2 ^ 64 - 1 - size) (a .1) }
 
--- ---- the lines of what is held, and what a turn makes of them
-
-module _ (room number : ℕ) (held : List ℕ) where
-  abbrev pub done : List (List ℕ)
-  done = linesDone room number (endedLines held)
-
-  abbrev pub rows : List ℕ
-  rows = outputFrom number done
-
-  abbrev pub rest : List ℕ
-  rest = drop (takenBy done) held
-
--- got bytes stand behind what was held
-abbrev pub heldWith : State → ℕ → List ℕ → List ℕ
-heldWith s got buf = slice (s .from) (s .end + got) buf
+-- ---- what a turn is, by cases
 
 module _ (buf : List ℕ) (room : ℕ) (s : State) (got : ℕ) where
-  abbrev held : List ℕ
-  held = heldWith s got buf
-
   pub turn-stops : goesOn (length buf) room (s .number) ≡ false → turnOf buf room s got ≡ stopped (s .number) []
   unfolding turnOf
   turn-stops h = rw h
@@ -63,43 +46,51 @@ module _ (buf : List ℕ) (room : ℕ) (s : State) (got : ℕ) where
     unfolding turnOf
     turn-ends t = rw (h, t)
 
-    pub turn-waits : (s .wants && got =? 0) ≡ false → 64 ≤ room - length (rows room (s .number) (heldWith s got buf))
-        → turnOf buf room s got ≡ waiting (s .number + length (done room (s .number) (heldWith s got buf))) (rows room (s .number) (heldWith s got buf)) (rest room (s .number) (heldWith s got buf))
+    pub turn-waits : (s .wants && got =? 0) ≡ false → 64 ≤ room - length (rowsOf room (s .number) (heldWith s got buf))
+        → turnOf buf room s got ≡ fed true room (s .number) (heldWith s got buf) (length (take (s .end + got) buf))
     unfolding turnOf
-    turn-waits t k = rw (h, t, le-leb 64 (room - length (rows room (s .number) held)) k)
+    turn-waits t k = rw (h, t, le-leb 64 (room - length (rowsOf room (s .number) (heldWith s got buf))) k)
 
-    pub turn-goes : (s .wants && got =? 0) ≡ false → room - length (rows room (s .number) (heldWith s got buf)) < 64
-        → turnOf buf room s got ≡ going (s .number + length (done room (s .number) (heldWith s got buf))) (rows room (s .number) (heldWith s got buf)) (rest room (s .number) (heldWith s got buf)) (length (take (s .end + got) buf))
+    pub turn-goes : (s .wants && got =? 0) ≡ false → room - length (rowsOf room (s .number) (heldWith s got buf)) < 64
+        → turnOf buf room s got ≡ fed false room (s .number) (heldWith s got buf) (length (take (s .end + got) buf))
     unfolding turnOf
-    turn-goes t k = rw (h, t, lt-leb 64 (room - length (rows room (s .number) held)) k)
+    turn-goes t k = rw (h, t, lt-leb 64 (room - length (rowsOf room (s .number) (heldWith s got buf))) k)
 
   -- the rows of a turn are what is to be written
   pub turn-written : turnOf buf room s got .next .written ≡ length (turnOf buf room s got .rows)
   unfolding turnOf
-  turn-written = by (goesOn (length buf) room (s .number)) (s .wants && got =? 0) (64 ≤? room - length (rows room (s .number) held))
+  turn-written = told (goesOn (length buf) room (s .number)) _ _ (told (s .wants && got =? 0) _ _ refl refl) refl
     where
-      by : (a b c : Bool) → cond a (cond b (stopped (s .number) (outputFrom (s .number) (lineOf held))) (cond c (waiting (s .number + length (done room (s .number) held)) (rows room (s .number) held) (rest room (s .number) held)) (going (s .number + length (done room (s .number) held)) (rows room (s .number) held) (rest room (s .number) held) (length (take (s .end + got) buf))))) (stopped (s .number) []) .next .written ≡ length (cond a (cond b (stopped (s .number) (outputFrom (s .number) (lineOf held))) (cond c (waiting (s .number + length (done room (s .number) held)) (rows room (s .number) held) (rest room (s .number) held)) (going (s .number + length (done room (s .number) held)) (rows room (s .number) held) (rest room (s .number) held) (length (take (s .end + got) buf))))) (stopped (s .number) []) .rows)
-      by true true c = refl
-      by true false true = refl
-      by true false false = refl
-      by false b c = refl
+      told : (b : Bool) (x y : Turn) → x .next .written ≡ length (x .rows) → y .next .written ≡ length (y .rows) → cond b x y .next .written ≡ length (cond b x y .rows)
+      told true x y e f = e
+      told false x y e f = f
 
 -- ---- each way out of a turn
 
-pub turned-same : {t : Turn} {buf b out o : List ℕ} {q r : State} → q ≡ r → Turned t buf b out o r → Turned t buf b out o q
+pub turned-same : {s : State} {got : ℕ} {buf b out o : List ℕ} {q r : State} → q ≡ r → Turned s got buf b out o r → Turned s got buf b out o q
 turned-same e m = rw e m
 
 module _ (buf out : List ℕ) (s : State) (got : ℕ) where
   abbrev bytes : List ℕ
   bytes = heldWith s got buf
 
-  pub turned-stops : goesOn (length buf) (length out) (s .number) ≡ false → Turned (turnOf buf (length out) s got) buf buf out out (state 0 0 (s .number) 0 false true)
-  turned-stops h = rw (turn-stops buf (length out) s got h) (record { next = refl; kept = refl; rows = refl; held = omega arith; fits = omega arith })
+  turned : (t : Turn) {b o : List ℕ} {r : State} → turnOf buf (length out) s got ≡ t → r ≡ t .next → b ≡ roomAfter (answer (t .kept)) buf → o ≡ roomAfter (answer (t .rows)) out
+      → r .end ≤ length buf → r .written ≤ length out → Turned s got buf b out o r
+  turned t e next kept rows held fits = record {
+    next = next ∙ ap (λ (u : Turn). u .next) (sym e);
+    kept = kept ∙ ap (λ (u : Turn). roomAfter (answer (u .kept)) buf) (sym e);
+    rows = rows ∙ ap (λ (u : Turn). roomAfter (answer (u .rows)) out) (sym e);
+    held = held;
+    fits = fits;
+  }
+
+  pub turned-stops : goesOn (length buf) (length out) (s .number) ≡ false → Turned s got buf buf out out (state 0 0 (s .number) 0 false true)
+  turned-stops h = turned (stopped (s .number) []) (turn-stops buf (length out) s got h) refl refl refl (omega arith) (omega arith)
 
   module _ (h : goesOn (length buf) (length out) (s .number) ≡ true) where
     pub turned-ends : {o : List ℕ} {w : ℕ} → (s .wants && got =? 0) ≡ true → Wrote out 0 o w (outputFrom (s .number) (lineOf (heldWith s got buf)))
-        → Turned (turnOf buf (length out) s got) buf buf out o (state 0 0 (s .number) w false true)
-    turned-ends t k = rw (turn-ends buf (length out) s got h t, wrote-end k) (record { next = refl; kept = refl; rows = wrote-front k; held = omega arith; fits = omega (arith, wrote-end k, k .fits) })
+        → Turned s got buf buf out o (state 0 0 (s .number) w false true)
+    turned-ends t k = turned _ (turn-ends buf (length out) s got h t) (rw (wrote-end k)) refl (wrote-front k) (omega arith) (k .fits)
 
     module _ (t : (s .wants && got =? 0) ≡ false) {o : List ℕ} {f : Fed} (k : IsFed (heldWith s got buf) (s .number) out o f) (e a : ℕ) (p : e ≡ min (s .end + got) (length buf)) (q : a ≡ min (s .from) e) where
       ends : length (take (s .end + got) buf) ≡ e
@@ -108,20 +99,20 @@ module _ (buf out : List ℕ) (s : State) (got : ℕ) where
       long : length bytes ≡ e - s .from
       long = length-drop (s .from) (take (s .end + got) buf) ∙ ap (λ (n : ℕ). n - s .from) ends
 
-      pub turned-goes : length out - f .written < 64 → Turned (turnOf buf (length out) s got) buf buf out o (state (a + f .used) e (f .number) (f .written) false false)
+      pub turned-goes : length out - f .written < 64 → Turned s got buf buf out o (state (a + f .used) e (f .number) (f .written) false false)
       turned-goes l =
           let w = wrote-end (k .wrote) in
-          let left = length-drop (takenBy (done (length out) (s .number) bytes)) bytes in
-          let from : a + f .used ≡ e - length (rest (length out) (s .number) bytes) = omega (arith, long, left, k .used, k .within) in
-          rw (turn-goes buf (length out) s got h t (omega (arith, w)), ends, ← from, k .next, w) (record { next = refl; kept = refl; rows = wrote-front (k .wrote); held = omega arith; fits = omega (arith, w, k .wrote .fits) })
+          let left = length-drop (takenBy (doneOf (length out) (s .number) bytes)) bytes in
+          let from : a + f .used ≡ e - length (restOf (length out) (s .number) bytes) = omega (arith, long, left, k .used, k .within) in
+          turned _ (turn-goes buf (length out) s got h t (omega (arith, w))) (rw (ends, ← from, k .next, w)) refl (wrote-front (k .wrote)) (omega arith) (k .wrote .fits)
 
       pub turned-waits : {b : List ℕ} {n : ℕ} → 64 ≤ length out - f .written → Wrote buf 0 b n (take 66 (slice (a + f .used) e buf))
-          → Turned (turnOf buf (length out) s got) buf b out o (state 0 n (f .number) (f .written) true false)
+          → Turned s got buf b out o (state 0 n (f .number) (f .written) true false)
       turned-waits l v =
           let w = wrote-end (k .wrote) in
-          let there : slice (a + f .used) e buf ≡ rest (length out) (s .number) bytes = sym (drop-drop (f .used) a (take e buf)) ∙ ap (λ (l : List ℕ). drop (f .used) l) (held-is buf (s .from) (s .end + got) a e p q) ∙ rw (k .used) in
+          let there : slice (a + f .used) e buf ≡ restOf (length out) (s .number) bytes = sym (drop-drop (f .used) a (take e buf)) ∙ ap (λ (l : List ℕ). drop (f .used) l) (held-is buf (s .from) (s .end + got) a e p q) ∙ rw (k .used) in
           let x = rw there at v in
-          rw (turn-waits buf (length out) s got h t (omega (arith, w)), k .next, w, wrote-end x) (record { next = refl; kept = wrote-front x; rows = wrote-front (k .wrote); held = omega (arith, wrote-end x, x .fits); fits = omega (arith, w, k .wrote .fits) })
+          turned _ (turn-waits buf (length out) s got h t (omega (arith, w))) (rw (k .next, w, wrote-end x)) (wrote-front x) (wrote-front (k .wrote)) (x .fits) (k .wrote .fits)
 
 -- ---- a turn prints what it should
 
@@ -151,21 +142,20 @@ pub record Onward (number : ℕ) (bytes : List ℕ) (size : ℕ) (t : Turn) (buf
   pub numbered : t .next .number + (t .next .end - t .next .from) ≤ number + length bytes
   pub less : 2 * (t .next .end - t .next .from) + unasked (t .next .wants) ≤ 2 * length bytes
 
-module _ (room number : ℕ) (bytes buf : List ℕ) where
-  waits : 67 ≤ length buf → 64 ≤ room - length (rows room number bytes)
-      → Onward number bytes (length buf) (waiting (number + length (done room number bytes)) (rows room number bytes) (rest room number bytes)) (after (waiting (number + length (done room number bytes)) (rows room number bytes) (rest room number bytes)) buf)
-  waits sized k =
-      let r = rest room number bytes in
-      let d = done room number bytes in
-      let f = all-fed room number bytes k in
-      let front = fed-front room number bytes in
+module _ (room number : ℕ) (held buf : List ℕ) where
+  waits : (end : ℕ) → 67 ≤ length buf → 64 ≤ room - length (rowsOf room number held) → Onward number held (length buf) (fed true room number held end) (after (fed true room number held end) buf)
+  waits end sized k =
+      let r = restOf room number held in
+      let d = doneOf room number held in
+      let free = all-fed room number held k in
+      let front = fed-front room number held in
       let kept : take (length (take 66 r)) (take 66 r ++ drop (length (take 66 r)) buf) ≡ take 66 r = take-append-seam (take 66 r) (drop (length (take 66 r)) buf) in
       let long = length-take 66 r in
-      let left = length-drop (takenBy d) bytes in
+      let left = length-drop (takenBy d) held in
       record {
-        whole = λ ys. block-by-block room number bytes ys ∙ ap (λ (l : List ℕ). rows room number bytes ++ l) (sym (keeps-enough (number + length d) r ys f) ∙ rw kept);
+        whole = λ ys. block-by-block room number held ys ∙ ap (λ (l : List ℕ). rowsOf room number held ++ l) (sym (keeps-enough (number + length d) r ys free) ∙ rw kept);
         on = refl;
-        calm = λ e. record { free = rw kept (free-take 10 66 r f); few = omega (arith, long) };
+        calm = λ e. record { free = rw kept (free-take 10 66 r free); few = omega (arith, long) };
         rises = omega arith;
         within = omega (arith, long);
         numbered = omega (arith, long, left, front .many, front .within);
@@ -178,20 +168,21 @@ module _ (room number : ℕ) (bytes buf : List ℕ) where
   some-taken [] h k = absurd (omega arith)
   some-taken (line ∷ lines) h k = omega arith
 
-  goes : (from m : ℕ) → from ≤ m → m ≤ length buf → bytes ≡ slice from m buf → 64 ≤ room → room - length (rows room number bytes) < 64
-      → Onward number bytes (length buf) (going (number + length (done room number bytes)) (rows room number bytes) (rest room number bytes) (length (take m buf))) buf
+  goes : (from m : ℕ) → from ≤ m → m ≤ length buf → held ≡ slice from m buf → 64 ≤ room → room - length (rowsOf room number held) < 64
+      → Onward number held (length buf) (fed false room number held (length (take m buf))) buf
   goes from m l w e roomy k =
-      let d = done room number bytes in
-      let r = rest room number bytes in
-      let front = fed-front room number bytes in
+      let d = doneOf room number held in
+      let r = restOf room number held in
+      let front = fed-front room number held in
       let long = length-take-le m buf w in
-      let size : length bytes ≡ m - from = ap length e ∙ length-drop from (take m buf) ∙ ap (λ (n : ℕ). n - from) long in
-      let left = length-drop (takenBy d) bytes in
+      let size : length held ≡ m - from = ap length e ∙ length-drop from (take m buf) ∙ ap (λ (n : ℕ). n - from) long in
+      let left = length-drop (takenBy d) held in
       let some = some-taken d roomy k in
       let at : length (take m buf) - length r ≡ from + takenBy d = omega (arith, front .within) in
-      let kept : slice (length (take m buf) - length r) (length (take m buf)) buf ≡ r = rw (at, long) (sym (drop-drop (takenBy d) from (take m buf)) ∙ ap (λ (l : List ℕ). drop (takenBy d) l) (sym e)) in
+      let kept : slice (length (take m buf) - length r) (length (take m buf)) buf ≡ r =
+      rw (at, long) (sym (drop-drop (takenBy d) from (take m buf)) ∙ ap (λ (l : List ℕ). drop (takenBy d) l) (sym e)) in
       record {
-        whole = λ ys. block-by-block room number bytes ys ∙ rw kept;
+        whole = λ ys. block-by-block room number held ys ∙ rw kept;
         on = refl;
         calm = λ e. let z : _≡_ {A = ℕ} 0 1 = cc in absurd (omega arith);
         rises = omega arith;
@@ -205,6 +196,6 @@ module _ (buf : List ℕ) (room : ℕ) (s : State) (got : ℕ) (h : goesOn (leng
       → Onward (s .number) (heldWith s got buf) (length buf) (turnOf buf room s got) (after (turnOf buf room s got) buf)
   turn-on sized roomy rises within =
       let bytes = heldWith s got buf in
-      ⊎-elim (λ k. rw (turn-waits buf room s got h t k) (waits room (s .number) bytes buf sized k))
+      ⊎-elim (λ k. rw (turn-waits buf room s got h t k) (waits room (s .number) bytes buf (length (take (s .end + got) buf)) sized k))
       (λ k. rw (turn-goes buf room s got h t k) (goes room (s .number) bytes buf (s .from) (s .end + got) (omega arith) within refl roomy k))
-      (le-or-less 64 (room - length (rows room (s .number) bytes)))
+      (le-or-less 64 (room - length (rowsOf room (s .number) bytes)))

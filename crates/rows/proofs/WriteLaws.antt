@@ -63,16 +63,24 @@ wrote-copy d at s i e h = record { same = rw (e, take-length, append-assoc); end
 pub decimal-tens : (n : ℕ) → 10 ≤ n → n < 100 → decimal n ≡ pair n
 decimal-tens n g h = let e : n / 10 % 10 ≡ n / 10 = omega arith in rw e at (decimal-2 n g h)
 
-pub decimal-pair : (n : ℕ) → 100 ≤ n → n < 2 ^ 64 → decimal n ≡ decimal (n / 100) ++ pair (n % 100)
+-- the digits of a number are those of a front and some last ones behind them
+pub record Behind (n front : ℕ) (last : List ℕ) : Type 0 where
+  pub is : decimal n ≡ decimal front ++ last
+  pub long : length (decimal n) ≡ length (decimal front) + length last
+
+behind : (n front : ℕ) (last : List ℕ) → decimal n ≡ decimal front ++ last → Behind n front last
+behind n front last e = record { is = e; long = ap length e ∙ length-append (decimal front) last }
+
+pub decimal-pair : (n : ℕ) → 100 ≤ n → n < 2 ^ 64 → Behind n (n / 100) (pair (n % 100))
 decimal-pair n g h =
     let a : n / 10 / 10 ≡ n / 100 = omega arith in
     let b : n / 10 % 10 ≡ n % 100 / 10 = omega arith in
     let c : n % 10 ≡ n % 100 % 10 = omega arith in
-    decimal-more n (omega arith) (omega arith) ∙ rw (decimal-more (n / 10) (omega arith) (omega arith), a, b, c, append-assoc)
+    behind n (n / 100) (pair (n % 100)) (decimal-more n (omega arith) (omega arith) ∙ rw (decimal-more (n / 10) (omega arith) (omega arith), a, b, c, append-assoc))
 
-pub decimal-four : (n : ℕ) → 10_000 ≤ n → n < 2 ^ 64 → decimal n ≡ decimal (n / 10_000) ++ (pair (n % 10_000 / 100) ++ pair (n % 10_000 % 100))
+pub decimal-four : (n : ℕ) → 10_000 ≤ n → n < 2 ^ 64 → Behind n (n / 10_000) (pair (n % 10_000 / 100) ++ pair (n % 10_000 % 100))
 decimal-four n g h =
     let a : n / 100 / 100 ≡ n / 10_000 = omega arith in
     let b : n / 100 % 100 ≡ n % 10_000 / 100 = omega arith in
     let c : n % 100 ≡ n % 10_000 % 100 = omega arith in
-    decimal-pair n (omega arith) h ∙ rw (decimal-pair (n / 100) (omega arith) (omega arith), a, b, c, append-assoc)
+    behind n (n / 10_000) (pair (n % 10_000 / 100) ++ pair (n % 10_000 % 100)) (decimal-pair n (omega arith) h .is ∙ rw (decimal-pair (n / 100) (omega arith) (omega arith) .is, a, b, c, append-assoc))

@@ -78,11 +78,21 @@ unfoldable pub takenBy : List (List ℕ) → ℕ
 takenBy [] = 0
 takenBy (line ∷ lines) = length line + 1 + takenBy lines
 
+-- the lines of a block that are done, their rows, and what is left of the block
+abbrev pub doneOf : ℕ → ℕ → List ℕ → List (List ℕ)
+doneOf room number block = linesDone room number (endedLines block)
+
+abbrev pub rowsOf : ℕ → ℕ → List ℕ → List ℕ
+rowsOf room number block = outputFrom number (doneOf room number block)
+
+abbrev pub restOf : ℕ → ℕ → List ℕ → List ℕ
+restOf room number block = drop (takenBy (doneOf room number block)) block
+
 -- what is made of a block: the rows of the lines done, the bytes of the block they took, and the next line's number
 pub record IsFed (block : List ℕ) (number : ℕ) (d e : List ℕ) (r : Fed) : Type 0 where
-  pub used : r .used ≡ takenBy (linesDone (length d) number (endedLines block))
-  pub next : r .number ≡ number + length (linesDone (length d) number (endedLines block))
-  pub wrote : Wrote d 0 e (r .written) (outputFrom number (linesDone (length d) number (endedLines block)))
+  pub used : r .used ≡ takenBy (doneOf (length d) number block)
+  pub next : r .number ≡ number + length (doneOf (length d) number block)
+  pub wrote : Wrote d 0 e (r .written) (rowsOf (length d) number block)
   pub within : r .used ≤ length block
 
 -- a part of so many bytes, from a up to n
@@ -97,11 +107,6 @@ pub record Buffers (size room : ℕ) : Type 0 where
   pub holds : 67 ≤ size
   pub small : size ≤ 2 ^ 16
   pub row : 64 ≤ room
-
--- some of so many, unless there are none
-pub record Some (r most : ℕ) : Type 0 where
-  pub few : r ≤ most
-  pub some : 1 ≤ most → 1 ≤ r
 
 -- a bytes of the input are read, and where more is wanted there is room for it
 pub record Ready (a long : ℕ) (s : State) (size : ℕ) : Type 0 where

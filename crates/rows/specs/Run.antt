@@ -9,8 +9,8 @@ use Rattle.refusal.specs.Paper.{answer, roomAfter}
 use Rattle.division.specs.Words.{_≤?_, _=?_}
 use Rattle.rows.specs.declared.run.State.{State}
 use Rattle.rows.specs.declared.run.Printed.{Printed}
-use Rattle.rows.specs.Program.{endedLines, lineOf, outputFrom}
-use Rattle.rows.specs.Given.{linesDone, takenBy}
+use Rattle.rows.specs.Program.{lineOf, outputFrom}
+use Rattle.rows.specs.Given.{doneOf, rowsOf, restOf}
 
 abbrev pub state : ℕ → ℕ → ℕ → ℕ → Bool → Bool → State
 state from end number written wants over = record { from = from; end = end; number = number; written = written; wants = wants; over = over }
@@ -23,6 +23,10 @@ start = state 0 0 1 0 true false
 abbrev pub goesOn : ℕ → ℕ → ℕ → Bool
 goesOn size room number = (67 ≤? size && 64 ≤? room) && number ≤? 2 ^ 64 - 1 - size
 
+-- what is held, with so many bytes more that were read behind it
+abbrev pub heldWith : State → ℕ → List ℕ → List ℕ
+heldWith s got buf = slice (s .from) (s .end + got) buf
+
 -- what a turn makes: the rows that are to be written, what is kept at the buffer's front, and what the next turn goes by
 pub record Turn : Type 0 where
   pub rows : List ℕ
@@ -32,35 +36,29 @@ pub record Turn : Type 0 where
 abbrev pub stopped : ℕ → List ℕ → Turn
 stopped number rows = record { rows = rows; kept = []; next = state 0 0 number (length rows) false true }
 
--- every line that is ended has its row: of the one behind them the first 66 bytes are kept, since no more decide its answer, and input is wanted
-abbrev pub waiting : ℕ → List ℕ → List ℕ → Turn
-waiting number rows left = record { rows = rows; kept = take 66 left; next = state 0 (length (take 66 left)) number (length rows) true false }
+-- the lines done have their rows. Where the room could take one more, those are all that are ended: of the line behind them the first 66
+-- bytes are kept, since no more decide its answer, and input is wanted. Otherwise what is left stays where it is, up to end
+abbrev pub fed : Bool → ℕ → ℕ → List ℕ → ℕ → Turn
+fed all room number held end = record {
+  rows = rowsOf room number held;
+  kept = cond all (take 66 (restOf room number held)) [];
+  next = state (cond all 0 (end - length (restOf room number held))) (cond all (length (take 66 (restOf room number held))) end) (number + length (doneOf room number held)) (length (rowsOf room number held)) all false;
+}
 
--- the room did not take all of them: what is left stays where it is, up to end
-abbrev pub going : ℕ → List ℕ → List ℕ → ℕ → Turn
-going number rows left end = record { rows = rows; kept = []; next = state (end - length left) end number (length rows) false false }
-
--- some lines of what is held have their rows
-abbrev pub feeding : ℕ → ℕ → List ℕ → ℕ → List (List ℕ) → Turn
-feeding room number held end done =
-    cond (64 ≤? room - length (outputFrom number done))
-    (waiting (number + length done) (outputFrom number done) (drop (takenBy done) held))
-    (going (number + length done) (outputFrom number done) (drop (takenBy done) held) end)
-
--- got bytes were read behind what is held; none, where some were wanted, is the end of the input, and what is held is a last line
+-- none read, where some were wanted, is the end of the input, and what is held is a last line
 unfoldable pub turnOf : List ℕ → ℕ → State → ℕ → Turn
 turnOf buf room s got =
     cond (goesOn (length buf) room (s .number))
     (cond (s .wants && got =? 0)
-    (stopped (s .number) (outputFrom (s .number) (lineOf (slice (s .from) (s .end + got) buf))))
-    (feeding room (s .number) (slice (s .from) (s .end + got) buf) (length (take (s .end + got) buf)) (linesDone room (s .number) (endedLines (slice (s .from) (s .end + got) buf)))))
+    (stopped (s .number) (outputFrom (s .number) (lineOf (heldWith s got buf))))
+    (fed (64 ≤? room - length (rowsOf room (s .number) (heldWith s got buf))) room (s .number) (heldWith s got buf) (length (take (s .end + got) buf))))
     (stopped (s .number) [])
 
--- r and what stands in buffer and room behind a turn: what it keeps and writes is laid over the front, and all else is as it was
-pub record Turned (t : Turn) (buf b out o : List ℕ) (r : State) : Type 0 where
-  pub next : r ≡ t .next
-  pub kept : b ≡ roomAfter (answer (t .kept)) buf
-  pub rows : o ≡ roomAfter (answer (t .rows)) out
+-- what a turn gives: what it keeps and its rows are laid over the front of buffer and room, and all else in them is as it was
+pub record Turned (s : State) (got : ℕ) (buf b out o : List ℕ) (r : State) : Type 0 where
+  pub next : r ≡ turnOf buf (length out) s got .next
+  pub kept : b ≡ roomAfter (answer (turnOf buf (length out) s got .kept)) buf
+  pub rows : o ≡ roomAfter (answer (turnOf buf (length out) s got .rows)) out
   pub held : r .end ≤ length buf
   pub fits : r .written ≤ length out
 

@@ -10,8 +10,8 @@ ghost use mathlib.Core.Bool.{true, false};
 ghost use Prim.Native.Nat.{_+_, _≤_, min};
 ghost use lib.ListN.{length};
 ghost use Rattle.rows.specs.Program.{printed};
-ghost use Rattle.rows.specs.Run.{state, start, goesOn, turnOf, Turned, poured, taken};
-ghost use Rattle.rows.specs.Given.{Some, Ready, Brought, Pours, Buffers};
+ghost use Rattle.rows.specs.Run.{state, start, goesOn, Turned, poured, taken};
+ghost use Rattle.rows.specs.Given.{Ready, Brought, Pours, Buffers};
 
 // What a run goes by between two turns: the bytes of the buffer that have no row yet, from `from` up to `end`; the number of their first
 // line; how many bytes of the room are to be written; whether input is wanted, which is to be read behind `end`; and whether the run is over.
@@ -68,7 +68,7 @@ fn reach(end: usize, got: usize, size: usize) -> usize
 
 // One turn: `got` bytes were read behind what the buffer holds, or none where none were wanted.
 pub fn turn(buf: &mut [u8], got: usize, s: State, out: &mut [u8]) -> State
-    ensures { λ r. ⌜ Turned (turnOf (now (buf .entry)) (length (now (out .entry))) s got) (now (buf .entry)) (now (buf .exit)) (now (out .entry)) (now (out .exit)) r ⌝ }
+    ensures { λ r. ⌜ Turned s got (now (buf .entry)) (now (buf .exit)) (now (out .entry)) (now (out .exit)) r ⌝ }
 {
     let number = s.number;
     if !goes_on(buf.len(), out.len(), number) {
@@ -113,7 +113,8 @@ pub struct Printed {
 
 // How many bytes a read brings that begins at place a of the input: what `lengths` says there, but at least one of those that can be had.
 fn wished(lengths: &[usize], a: usize, most: usize) -> usize
-    ensures { λ r. ⌜ Some r most ⌝ }
+    ensures { λ r. ⌜ r ≤ most ⌝ }
+    ensures { λ r. ⌜ (1 ≤ most → 1 ≤ r) ⌝ }
 {
     if lengths.len() <= a {
         return most;

@@ -5,9 +5,9 @@ use mathlib.Core.Bool.{true}
 use native.Mathlib.Omega.{arith}
 use lib.ListN.{length, take, drop}
 use Rattle.refusal.proofs.PaperLaws.{fails, holds}
-use Rattle.rows.specs.Run.{goesOn}
+use Rattle.rows.specs.Run.{goesOn, heldWith}
 use Rattle.rows.proofs.PartLaws.{part-is, held-is, part-few}
-use Rattle.rows.proofs.TurnLaws.{On, on-is, heldWith, turned-same, turned-stops, turned-ends, turned-goes, turned-waits}
+use Rattle.rows.proofs.TurnLaws.{On, on-is, turned-same, turned-stops, turned-ends, turned-goes, turned-waits}
 use borrow.Author.Needs.{needs}
 use Rattle.rows.proofs.run.turn.Statement.{statement}
 use Rattle.rows.proofs.run.turn.Tie as tie
