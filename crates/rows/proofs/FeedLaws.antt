@@ -12,7 +12,7 @@ use lib.Seq.{take-at, drop-append-add, drop-drop, length-take-le, take-all}
 use Rattle.label.specs.Text.{split}
 use Rattle.label.proofs.SplitLaws.{Free, split-piece, split-last}
 use Rattle.rows.specs.Program.{endedLines, unended, lineOf, linesOf, outputLine, outputFrom}
-use Rattle.rows.specs.Given.{Wrote, firstLine, linesDone, takenBy, doneOf, IsFed}
+use Rattle.rows.specs.Given.{Wrote, firstLine, linesDone, takenBy, doneIn, IsFed}
 use Rattle.rows.proofs.WriteLaws.{then, same-long, wrote-none}
 
 -- ---- bytes with a line feed in them, or none
@@ -122,7 +122,7 @@ rest-is block a = take-all (length block - a) (drop a block) (omega (arith, leng
 
 pub record Going (block : List ℕ) (number : ℕ) (d e : List ℕ) (a at n : ℕ) : Type 0 where
   pub done : List (List ℕ)
-  pub whole : doneOf (length d) number block ≡ done ++ linesDone (length d - at) n (endedLines (drop a block))
+  pub whole : doneIn (length d) number block ≡ done ++ linesDone (length d - at) n (endedLines (drop a block))
   pub used : a ≡ takenBy done
   pub next : n ≡ number + length done
   pub wrote : Wrote d 0 e at (outputFrom number done)
@@ -169,7 +169,7 @@ module _ (block : List ℕ) (number : ℕ) (d : List ℕ) where
   -- no line more
   pub going-end : {e : List ℕ} {a at n : ℕ} → Going block number d e a at n → linesDone (length d - at) n (endedLines (drop a block)) ≡ [] → IsFed block number d e (record { used = a; written = at; number = n })
   going-end g none =
-      let w : doneOf (length d) number block ≡ g .done = g .whole ∙ rw (none, append-nil) in
+      let w : doneIn (length d) number block ≡ g .done = g .whole ∙ rw (none, append-nil) in
       record { used = rw w (g .used); next = rw w (g .next); wrote = rw w (g .wrote); within = g .within }
 
 -- ---- the last line

@@ -7,7 +7,7 @@ use native.Mathlib.Omega.{arith}
 use lib.ListN.{length, take, drop, length-take, length-drop, drop-of-length-le}
 use lib.Seq.{slice, take-all, take-take, take-at, drop-length, take-nil, length-take-le}
 use Rattle.division.proofs.TestLaws.{both, le-or-less}
-use Rattle.rows.specs.Given.{Wrote, Within}
+use Rattle.rows.specs.Given.{Wrote}
 use Rattle.rows.proofs.WriteLaws.{wrote-front}
 
 -- as the code lends it
@@ -35,11 +35,11 @@ held-is buf from end a e p q =
     rw (s, q, n) (drop-min (take end buf) from)
 
 -- what goes to the front by way of a line of its own
-pub kept-is : (buf : List ℕ) (a n k : ℕ) → Within a n (length buf) → k ≡ min 66 (n - a) → {d line : List ℕ} {r : ℕ} → Wrote d 0 line r (take (a + k - a) (drop a buf)) → take k line ≡ take 66 (slice a n buf)
+pub kept-is : (buf : List ℕ) (a n k : ℕ) → (a ≤ n) × (n ≤ length buf) → k ≡ min 66 (n - a) → {d line : List ℕ} {r : ℕ} → Wrote d 0 line r (take (a + k - a) (drop a buf)) → take k line ≡ take 66 (slice a n buf)
 kept-is buf a n k h q w =
     let e : a + k - a ≡ k = omega arith in
     let x = take k (drop a buf) in
-    let long : length x ≡ k = length-take-le k (drop a buf) (omega (arith, length-drop a buf, h .rises, h .ends)) in
+    let long : length x ≡ k = length-take-le k (drop a buf) (omega (arith, length-drop a buf, h .0, h .1)) in
     let v = rw e at w in
     rw (wrote-front v, ← part-is buf a n) (take-at x _ k long ∙ ⊎-elim few many (le-or-less (n - a) 66))
   where

@@ -14,7 +14,7 @@ use lib.Seq.{drop-append-add, take-append-le, take-take, take-all, length-take-l
 use Rattle.division.proofs.TestLaws.{le-or-less}
 use Rattle.label.proofs.SplitLaws.{Free}
 use Rattle.rows.specs.Program.{endedLines, lineOf, linesOf, outputLine, outputFrom}
-use Rattle.rows.specs.Given.{linesDone, takenBy, doneOf, rowsOf, restOf}
+use Rattle.rows.specs.Given.{linesDone, takenBy, doneIn, rowsDone, leftIn}
 use Rattle.rows.specs.declared.run.State.{State}
 use Rattle.rows.specs.Run.{Turned}
 use Rattle.catalogue.proofs.LineTheorems.{same-66}
@@ -61,14 +61,14 @@ done-first room n (line ∷ lines) = by (leb 64 room) (done-first (room - length
     by true r = (r .0, ap (λ (ls : List (List ℕ)). line ∷ ls) (r .1))
     by false r = (line ∷ lines, refl)
 
-pub fed-front : (room n : ℕ) (block : List ℕ) → Fronted (doneOf room n block) (done-first room n (endedLines block) .0) block
-fed-front room n block = fronted (doneOf room n block) (done-first room n (endedLines block) .0) block (done-first room n (endedLines block) .1)
+pub fed-front : (room n : ℕ) (block : List ℕ) → Fronted (doneIn room n block) (done-first room n (endedLines block) .0) block
+fed-front room n block = fronted (doneIn room n block) (done-first room n (endedLines block) .0) block (done-first room n (endedLines block) .1)
 
 -- "It reads catalogue lines .. For each it prints": what is printed for a block, and for what is left of it with whatever follows
 pub block-by-block : (room n : ℕ) (block ys : List ℕ)
-    → outputFrom n (linesOf (block ++ ys)) ≡ rowsOf room n block ++ outputFrom (n + length (doneOf room n block)) (linesOf (restOf room n block ++ ys))
+    → outputFrom n (linesOf (block ++ ys)) ≡ rowsDone room n block ++ outputFrom (n + length (doneIn room n block)) (linesOf (leftIn room n block ++ ys))
 block-by-block room n block ys =
-    rw (fed-front room n block .whole ys) (output-append n (doneOf room n block) (linesOf (restOf room n block ++ ys)))
+    rw (fed-front room n block .whole ys) (output-append n (doneIn room n block) (linesOf (leftIn room n block ++ ys)))
 
 -- where room for one more row is left, every line is done
 all-done : (room n : ℕ) (lines : List (List ℕ)) → 64 ≤ room - length (outputFrom n (linesDone room n lines)) → linesDone room n lines ≡ lines
@@ -94,7 +94,7 @@ none-ended bytes e = by (cut bytes)
     by (ended line rest f q) = let s = sym (ended-more line rest f) ∙ ap endedLines (sym q) ∙ e in let z : _≡_ {A = ℕ} 0 1 = cc in absurd (omega arith)
 
 -- and no line feed is left
-pub all-fed : (room n : ℕ) (block : List ℕ) → 64 ≤ room - length (rowsOf room n block) → Free 10 (restOf room n block)
+pub all-fed : (room n : ℕ) (block : List ℕ) → 64 ≤ room - length (rowsDone room n block) → Free 10 (leftIn room n block)
 all-fed room n block h =
     rw (all-done room n (endedLines block) h) (none-ended (drop (takenBy (endedLines block)) block) (fronted (endedLines block) [] block (sym (append-nil (endedLines block))) .left))
 

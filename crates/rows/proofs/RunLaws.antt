@@ -13,10 +13,10 @@ use Rattle.division.specs.Words.{_=?_}
 use Rattle.division.proofs.TestLaws.{both, le-or-less, same-leb}
 use Rattle.label.proofs.SplitLaws.{Free}
 use Rattle.rows.specs.declared.run.State.{State}
-use Rattle.rows.specs.declared.run.Printed.{Printed}
+use Rattle.rows.specs.declared.run.Took.{Took}
 use Rattle.rows.specs.Program.{lineOf, linesOf, outputFrom, printed}
 use Rattle.rows.specs.Given.{Wrote, Buffers, Ready, Brought, Pours}
-use Rattle.rows.specs.Run.{Turn, start, goesOn, heldWith, stopped, turnOf, Turned, poured, taken}
+use Rattle.rows.specs.Run.{Turn, start, goesOn, heldWith, stopped, turnOf, Turned, poured, tally}
 use Rattle.rows.proofs.WriteLaws.{same-long, wrote-none}
 use Rattle.rows.proofs.RowTheorems.{last-counts}
 use Rattle.rows.proofs.PartLaws.{drop-min}
@@ -24,15 +24,15 @@ use Rattle.rows.proofs.TurnLaws.{heldBy, after, Calm, unasked, Onward, 
 
 -- ---- the sink
 
--- what a sink of so many places has taken of some bytes
-pub record Sunk (sink₀ bytes sink : List ℕ) (p : Printed) : Type 0 where
+-- what a sink has taken of some bytes, and what it tells
+pub record Sunk (sink₀ bytes sink : List ℕ) (p : Took) : Type 0 where
   pub same : sink ≡ poured bytes sink₀
-  pub told : p ≡ taken bytes (length sink₀)
+  pub told : p ≡ tally bytes (length sink₀)
 
 pub sunk-none : (sink : List ℕ) → Sunk sink [] sink (record { written = 0; whole = true })
 sunk-none sink = record { same = rw (take-nil (length sink)); told = rw (take-nil (length sink), le-leb 0 (length sink) (omega arith)) }
 
-module _ {sink₀ bytes sink : List ℕ} {p : Printed} (k : Sunk sink₀ bytes sink p) where
+module _ {sink₀ bytes sink : List ℕ} {p : Took} (k : Sunk sink₀ bytes sink p) where
   pub sunk-long : length sink ≡ length sink₀
   sunk-long = ap length (k .same) ∙ simp (length-append, length-take, length-drop) (omega arith)
 
@@ -40,7 +40,7 @@ module _ {sink₀ bytes sink : List ℕ} {p : Printed} (k : Sunk sink₀ bytes s
   sunk-within = rw (k .told) (omega (arith, length-take (length sink₀) bytes, sunk-long))
 
   -- and of some more behind them
-  pub sunk-more : {more after : List ℕ} {r : Printed} → Pours more p sink after r → Sunk sink₀ (bytes ++ more) after r
+  pub sunk-more : {more after : List ℕ} {r : Took} → Pours more p sink after r → Sunk sink₀ (bytes ++ more) after r
   sunk-more {more} {after} {r} w = ⊎-elim fits full (le-or-less (length bytes) (length sink₀))
     where
       size : ℕ
@@ -51,7 +51,7 @@ module _ {sink₀ bytes sink : List ℕ} {p : Printed} (k : Sunk sink₀ bytes s
 
       fits : length bytes ≤ size → Sunk sink₀ (bytes ++ more) after r
       fits h =
-          let at : p .written ≡ length bytes = ap (λ (q : Printed). q .written) (k .told) ∙ ap length (take-all size bytes h) in
+          let at : p .written ≡ length bytes = ap (λ (q : Took). q .written) (k .told) ∙ ap length (take-all size bytes h) in
           let s : sink ≡ bytes ++ drop (length bytes) sink₀ = k .same ∙ rw (take-all size bytes h) in
           let left : length sink - p .written ≡ size - length bytes = omega (arith, sunk-long) in
           let x = take (size - length bytes) more in
@@ -67,7 +67,7 @@ module _ {sink₀ bytes sink : List ℕ} {p : Printed} (k : Sunk sink₀ bytes s
 
       full : size < length bytes → Sunk sink₀ (bytes ++ more) after r
       full h =
-          let at : p .written ≡ size = ap (λ (q : Printed). q .written) (k .told) ∙ length-take-le size bytes (omega arith) in
+          let at : p .written ≡ size = ap (λ (q : Took). q .written) (k .told) ∙ length-take-le size bytes (omega arith) in
           let s : sink ≡ take size bytes = k .same ∙ rw (drop-of-length-le sink₀ {i = length bytes} (omega arith), append-nil) in
           let left : length sink - p .written ≡ 0 = omega (arith, sunk-long) in
           let front : take size (bytes ++ more) ≡ take size bytes = take-append-le size bytes more (omega arith) in
@@ -127,7 +127,7 @@ module _ {input : List ℕ} {a : ℕ} {s : State} {buf b : List ℕ} {r : ℕ} (
 abbrev pub toGo : List ℕ → State → ℕ → ℕ
 toGo input s a = 3 * (length input - a) + 2 * (s .end - s .from) + unasked (s .wants) + 2 * unasked (s .over)
 
-pub record Running (input sink₀ : List ℕ) (size room : ℕ) (buf out sink : List ℕ) (s : State) (p : Printed) (a : ℕ) : Type 0 where
+pub record Running (input sink₀ : List ℕ) (size room : ℕ) (buf out sink : List ℕ) (s : State) (p : Took) (a : ℕ) : Type 0 where
   pub sofar : List ℕ
   pub whole : printed input ≡ sofar ++ cond (s .over) [] (outputFrom (s .number) (linesOf (heldBy s buf ++ drop a input)))
   pub sunk : Sunk sink₀ sofar sink p
@@ -159,7 +159,7 @@ some-step : (wants : Bool) (r : ℕ) → (wants && r =? 0) ≡ false → 1 ≤ r
 some-step true r e = let n = eqb-false r 0 e in omega arith
 some-step false r e = omega arith
 
-module _ {input sink₀ : List ℕ} {size room : ℕ} {buf out sink : List ℕ} {s : State} {p : Printed} {a : ℕ} (g : Running input sink₀ size room buf out sink s p a)
+module _ {input sink₀ : List ℕ} {size room : ℕ} {buf out sink : List ℕ} {s : State} {p : Took} {a : ℕ} (g : Running input sink₀ size room buf out sink s p a)
     (over : s .over ≡ false) (bufs : Buffers size room) (few : length input < 2 ^ 63) {b : List ℕ} {r : ℕ} (k : Brought input a s buf b r) where
   abbrev t : Turn
   t = turnOf b (length out) s r
@@ -192,7 +192,7 @@ module _ {input sink₀ : List ℕ} {size room : ℕ} {buf out sink : List ℕ} 
         let o = onward in
         omega (arith, o .less, many, some-step (s .wants) r e, ap unasked over, ap unasked (o .on), k .inside, g .rises)
 
-    step-on : {sink' : List ℕ} {q : Printed} → Pours (t .rows) p sink sink' q → (o : List ℕ) → length o ≡ room → length (after t b) ≡ size → Running input sink₀ size room (after t b) o sink' (t .next) q (a + r)
+    step-on : {sink' : List ℕ} {q : Took} → Pours (t .rows) p sink sink' q → (o : List ℕ) → length o ≡ room → length (after t b) ≡ size → Running input sink₀ size room (after t b) o sink' (t .next) q (a + r)
     step-on w x n l =
         let o = onward in
         record {
@@ -229,7 +229,7 @@ module _ {input sink₀ : List ℕ} {size room : ℕ} {buf out sink : List ℕ} 
     less-end : toGo input (t .next) (a + r) < toGo input s a
     less-end = rw stops (omega (arith, ap unasked over, k .inside))
 
-    step-end : {sink' : List ℕ} {q : Printed} → Pours (t .rows) p sink sink' q → (o : List ℕ) → length o ≡ room → Running input sink₀ size room (after t b) o sink' (t .next) q (a + r)
+    step-end : {sink' : List ℕ} {q : Took} → Pours (t .rows) p sink sink' q → (o : List ℕ) → length o ≡ room → Running input sink₀ size room (after t b) o sink' (t .next) q (a + r)
     step-end w x n =
         let v = rw stops at w in
         rw stops (record {
@@ -257,13 +257,13 @@ module _ {input sink₀ : List ℕ} {size room : ℕ} {buf out sink : List ℕ} 
     written-rows : take (s' .written) out' ≡ t .rows
     written-rows = rw (m .next, m .rows, turn-written b (length out) s r) (take-append-seam (t .rows) (drop (length (t .rows)) out))
 
-    pub run-on : {sink' : List ℕ} {q : Printed} → Pours (take (s' .written) out') p sink sink' q → Running input sink₀ size room b' out' sink' s' q (a + r)
+    pub run-on : {sink' : List ℕ} {q : Took} → Pours (take (s' .written) out') p sink sink' q → Running input sink₀ size room b' out' sink' s' q (a + r)
     run-on {sink'} {q} w = rw (m .next, m .kept) (by (s .wants && r =? 0) refl (rw written-rows at w))
       where
         by : (c : Bool) → (s .wants && r =? 0) ≡ c → Pours (t .rows) p sink sink' q → Running input sink₀ size room (after t b) out' sink' (t .next) q (a + r)
         by true e v = step-end e v out' (n ∙ g .same-out)
         by false e v = step-on e v out' (n ∙ g .same-out) (ap length (sym (m .kept)) ∙ l ∙ size-b)
 
-pub run-end : {input sink₀ : List ℕ} {size room : ℕ} {buf out sink : List ℕ} {s : State} {p : Printed} {a : ℕ} → Running input sink₀ size room buf out sink s p a → s .over ≡ true
-    → (p ≡ taken (printed input) (length sink₀)) × (sink ≡ poured (printed input) sink₀)
+pub run-end : {input sink₀ : List ℕ} {size room : ℕ} {buf out sink : List ℕ} {s : State} {p : Took} {a : ℕ} → Running input sink₀ size room buf out sink s p a → s .over ≡ true
+    → (p ≡ tally (printed input) (length sink₀)) × (sink ≡ poured (printed input) sink₀)
 run-end {input = input} g h = let e : printed input ≡ g .sofar = g .whole ∙ rw (h, append-nil) in rw e (g .sunk .told, g .sunk .same)

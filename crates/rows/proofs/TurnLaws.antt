@@ -15,21 +15,21 @@ use Rattle.label.proofs.SplitLaws.{Free}
 use Rattle.rows.specs.declared.run.State.{State}
 use Rattle.rows.specs.Program.{lineOf, linesOf, outputFrom}
 use Rattle.rows.specs.declared.feed.Fed.{Fed}
-use Rattle.rows.specs.Given.{Wrote, takenBy, doneOf, rowsOf, restOf, IsFed}
-use Rattle.rows.specs.Run.{Turn, state, goesOn, heldWith, stopped, fed, turnOf, Turned}
+use Rattle.rows.specs.Given.{Wrote, takenBy, doneIn, rowsDone, leftIn, IsFed}
+use Rattle.rows.specs.Run.{Turn, state, goesOn, heldWith, stopped, midTurn, turnOf, Turned}
 use Rattle.rows.proofs.WriteLaws.{wrote-front, wrote-end}
 use Rattle.rows.proofs.PartLaws.{held-is}
 use Rattle.rows.proofs.RowTheorems.{fed-front, block-by-block, all-fed, free-take, keeps-enough}
 
 -- ---- room and numbers
 
-pub record On (size room number : ℕ) : Type 0 where
+pub record Enough (size room number : ℕ) : Type 0 where
   pub holds : 67 ≤ size
   pub row : 64 ≤ room
   pub few : number ≤ 2 ^ 64 - 1 - size
 
-pub on-is : (size room number : ℕ) → goesOn size room number ≡ true → On size room number
-on-is size room number e =
+pub enough-is : (size room number : ℕ) → goesOn size room number ≡ true → Enough size room number
+enough-is size room number e =
     let a = both (67 ≤? size && 64 ≤? room) (number ≤? 2 ^ 64 - 1 - size) e in
     let c = both (67 ≤? size) (64 ≤? room) (a .0) in
     record { holds = leb-true 67 size (c .0); row = leb-true 64 room (c .1); few = leb-true number (2 ^ 64 - 1 - size) (a .1) }
@@ -46,15 +46,15 @@ module _ (buf : List ℕ) (room : ℕ) (s : State) (got : ℕ) where
     unfolding turnOf
     turn-ends t = rw (h, t)
 
-    pub turn-waits : (s .wants && got =? 0) ≡ false → 64 ≤ room - length (rowsOf room (s .number) (heldWith s got buf))
-        → turnOf buf room s got ≡ fed true room (s .number) (heldWith s got buf) (length (take (s .end + got) buf))
+    pub turn-waits : (s .wants && got =? 0) ≡ false → 64 ≤ room - length (rowsDone room (s .number) (heldWith s got buf))
+        → turnOf buf room s got ≡ midTurn true room (s .number) (heldWith s got buf) (length (take (s .end + got) buf))
     unfolding turnOf
-    turn-waits t k = rw (h, t, le-leb 64 (room - length (rowsOf room (s .number) (heldWith s got buf))) k)
+    turn-waits t k = rw (h, t, le-leb 64 (room - length (rowsDone room (s .number) (heldWith s got buf))) k)
 
-    pub turn-goes : (s .wants && got =? 0) ≡ false → room - length (rowsOf room (s .number) (heldWith s got buf)) < 64
-        → turnOf buf room s got ≡ fed false room (s .number) (heldWith s got buf) (length (take (s .end + got) buf))
+    pub turn-goes : (s .wants && got =? 0) ≡ false → room - length (rowsDone room (s .number) (heldWith s got buf)) < 64
+        → turnOf buf room s got ≡ midTurn false room (s .number) (heldWith s got buf) (length (take (s .end + got) buf))
     unfolding turnOf
-    turn-goes t k = rw (h, t, lt-leb 64 (room - length (rowsOf room (s .number) (heldWith s got buf))) k)
+    turn-goes t k = rw (h, t, lt-leb 64 (room - length (rowsDone room (s .number) (heldWith s got buf))) k)
 
   -- the rows of a turn are what is to be written
   pub turn-written : turnOf buf room s got .next .written ≡ length (turnOf buf room s got .rows)
@@ -102,15 +102,15 @@ module _ (buf out : List ℕ) (s : State) (got : ℕ) where
       pub turned-goes : length out - f .written < 64 → Turned s got buf buf out o (state (a + f .used) e (f .number) (f .written) false false)
       turned-goes l =
           let w = wrote-end (k .wrote) in
-          let left = length-drop (takenBy (doneOf (length out) (s .number) bytes)) bytes in
-          let from : a + f .used ≡ e - length (restOf (length out) (s .number) bytes) = omega (arith, long, left, k .used, k .within) in
+          let left = length-drop (takenBy (doneIn (length out) (s .number) bytes)) bytes in
+          let from : a + f .used ≡ e - length (leftIn (length out) (s .number) bytes) = omega (arith, long, left, k .used, k .within) in
           turned _ (turn-goes buf (length out) s got h t (omega (arith, w))) (rw (ends, ← from, k .next, w)) refl (wrote-front (k .wrote)) (omega arith) (k .wrote .fits)
 
       pub turned-waits : {b : List ℕ} {n : ℕ} → 64 ≤ length out - f .written → Wrote buf 0 b n (take 66 (slice (a + f .used) e buf))
           → Turned s got buf b out o (state 0 n (f .number) (f .written) true false)
       turned-waits l v =
           let w = wrote-end (k .wrote) in
-          let there : slice (a + f .used) e buf ≡ restOf (length out) (s .number) bytes = sym (drop-drop (f .used) a (take e buf)) ∙ ap (λ (l : List ℕ). drop (f .used) l) (held-is buf (s .from) (s .end + got) a e p q) ∙ rw (k .used) in
+          let there : slice (a + f .used) e buf ≡ leftIn (length out) (s .number) bytes = sym (drop-drop (f .used) a (take e buf)) ∙ ap (λ (l : List ℕ). drop (f .used) l) (held-is buf (s .from) (s .end + got) a e p q) ∙ rw (k .used) in
           let x = rw there at v in
           turned _ (turn-waits buf (length out) s got h t (omega (arith, w))) (rw (k .next, w, wrote-end x)) (wrote-front x) (wrote-front (k .wrote)) (x .fits) (k .wrote .fits)
 
@@ -143,17 +143,17 @@ pub record Onward (number : ℕ) (bytes : List ℕ) (size : ℕ) (t : Turn) (buf
   pub less : 2 * (t .next .end - t .next .from) + unasked (t .next .wants) ≤ 2 * length bytes
 
 module _ (room number : ℕ) (held buf : List ℕ) where
-  waits : (end : ℕ) → 67 ≤ length buf → 64 ≤ room - length (rowsOf room number held) → Onward number held (length buf) (fed true room number held end) (after (fed true room number held end) buf)
+  waits : (end : ℕ) → 67 ≤ length buf → 64 ≤ room - length (rowsDone room number held) → Onward number held (length buf) (midTurn true room number held end) (after (midTurn true room number held end) buf)
   waits end sized k =
-      let r = restOf room number held in
-      let d = doneOf room number held in
+      let r = leftIn room number held in
+      let d = doneIn room number held in
       let free = all-fed room number held k in
       let front = fed-front room number held in
       let kept : take (length (take 66 r)) (take 66 r ++ drop (length (take 66 r)) buf) ≡ take 66 r = take-append-seam (take 66 r) (drop (length (take 66 r)) buf) in
       let long = length-take 66 r in
       let left = length-drop (takenBy d) held in
       record {
-        whole = λ ys. block-by-block room number held ys ∙ ap (λ (l : List ℕ). rowsOf room number held ++ l) (sym (keeps-enough (number + length d) r ys free) ∙ rw kept);
+        whole = λ ys. block-by-block room number held ys ∙ ap (λ (l : List ℕ). rowsDone room number held ++ l) (sym (keeps-enough (number + length d) r ys free) ∙ rw kept);
         on = refl;
         calm = λ e. record { free = rw kept (free-take 10 66 r free); few = omega (arith, long) };
         rises = omega arith;
@@ -168,11 +168,11 @@ module _ (room number : ℕ) (held buf : List ℕ) where
   some-taken [] h k = absurd (omega arith)
   some-taken (line ∷ lines) h k = omega arith
 
-  goes : (from m : ℕ) → from ≤ m → m ≤ length buf → held ≡ slice from m buf → 64 ≤ room → room - length (rowsOf room number held) < 64
-      → Onward number held (length buf) (fed false room number held (length (take m buf))) buf
+  goes : (from m : ℕ) → from ≤ m → m ≤ length buf → held ≡ slice from m buf → 64 ≤ room → room - length (rowsDone room number held) < 64
+      → Onward number held (length buf) (midTurn false room number held (length (take m buf))) buf
   goes from m l w e roomy k =
-      let d = doneOf room number held in
-      let r = restOf room number held in
+      let d = doneIn room number held in
+      let r = leftIn room number held in
       let front = fed-front room number held in
       let long = length-take-le m buf w in
       let size : length held ≡ m - from = ap length e ∙ length-drop from (take m buf) ∙ ap (λ (n : ℕ). n - from) long in
@@ -198,4 +198,4 @@ module _ (buf : List ℕ) (room : ℕ) (s : State) (got : ℕ) (h : goesOn (leng
       let bytes = heldWith s got buf in
       ⊎-elim (λ k. rw (turn-waits buf room s got h t k) (waits room (s .number) bytes buf (length (take (s .end + got) buf)) sized k))
       (λ k. rw (turn-goes buf room s got h t k) (goes room (s .number) bytes buf (s .from) (s .end + got) (omega arith) within refl roomy k))
-      (le-or-less 64 (room - length (rowsOf room (s .number) bytes)))
+      (le-or-less 64 (room - length (rowsDone room (s .number) bytes)))

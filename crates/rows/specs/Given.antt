@@ -15,7 +15,7 @@ use Rattle.division.specs.Answers.{sheetPaper}
 use Rattle.label.specs.Text.{split}
 use Rattle.rows.specs.declared.feed.Fed.{Fed}
 use Rattle.rows.specs.declared.run.State.{State}
-use Rattle.rows.specs.declared.run.Printed.{Printed}
+use Rattle.rows.specs.declared.run.Took.{Took}
 use Rattle.rows.specs.Program.{endedLines, outputLine, outputFrom}
 
 -- ---- text in room
@@ -79,26 +79,21 @@ takenBy [] = 0
 takenBy (line ∷ lines) = length line + 1 + takenBy lines
 
 -- the lines of a block that are done, their rows, and what is left of the block
-abbrev pub doneOf : ℕ → ℕ → List ℕ → List (List ℕ)
-doneOf room number block = linesDone room number (endedLines block)
+abbrev pub doneIn : ℕ → ℕ → List ℕ → List (List ℕ)
+doneIn room number block = linesDone room number (endedLines block)
 
-abbrev pub rowsOf : ℕ → ℕ → List ℕ → List ℕ
-rowsOf room number block = outputFrom number (doneOf room number block)
+abbrev pub rowsDone : ℕ → ℕ → List ℕ → List ℕ
+rowsDone room number block = outputFrom number (doneIn room number block)
 
-abbrev pub restOf : ℕ → ℕ → List ℕ → List ℕ
-restOf room number block = drop (takenBy (doneOf room number block)) block
+abbrev pub leftIn : ℕ → ℕ → List ℕ → List ℕ
+leftIn room number block = drop (takenBy (doneIn room number block)) block
 
 -- what is made of a block: the rows of the lines done, the bytes of the block they took, and the next line's number
 pub record IsFed (block : List ℕ) (number : ℕ) (d e : List ℕ) (r : Fed) : Type 0 where
-  pub used : r .used ≡ takenBy (doneOf (length d) number block)
-  pub next : r .number ≡ number + length (doneOf (length d) number block)
-  pub wrote : Wrote d 0 e (r .written) (rowsOf (length d) number block)
+  pub used : r .used ≡ takenBy (doneIn (length d) number block)
+  pub next : r .number ≡ number + length (doneIn (length d) number block)
+  pub wrote : Wrote d 0 e (r .written) (rowsDone (length d) number block)
   pub within : r .used ≤ length block
-
--- a part of so many bytes, from a up to n
-pub record Within (a n size : ℕ) : Type 0 where
-  pub rises : a ≤ n
-  pub ends : n ≤ size
 
 -- ---- a run
 
@@ -122,6 +117,6 @@ pub record Brought (input : List ℕ) (a : ℕ) (s : State) (buf after : List �
   pub ended : s .wants ≡ true → r ≡ 0 → a ≡ length input
 
 -- a sink has taken some of the bytes more
-pub record Pours (bytes : List ℕ) (p : Printed) (sink after : List ℕ) (r : Printed) : Type 0 where
+pub record Pours (bytes : List ℕ) (p : Took) (sink after : List ℕ) (r : Took) : Type 0 where
   pub wrote : Wrote sink (p .written) after (r .written) (take (length sink - p .written) bytes)
   pub whole : r .whole ≡ (p .whole && length bytes ≤? length sink - p .written)

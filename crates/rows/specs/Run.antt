@@ -8,9 +8,9 @@ use lib.Seq.{slice}
 use Rattle.refusal.specs.Paper.{answer, roomAfter}
 use Rattle.division.specs.Words.{_≤?_, _=?_}
 use Rattle.rows.specs.declared.run.State.{State}
-use Rattle.rows.specs.declared.run.Printed.{Printed}
+use Rattle.rows.specs.declared.run.Took.{Took}
 use Rattle.rows.specs.Program.{lineOf, outputFrom}
-use Rattle.rows.specs.Given.{doneOf, rowsOf, restOf}
+use Rattle.rows.specs.Given.{doneIn, rowsDone, leftIn}
 
 abbrev pub state : ℕ → ℕ → ℕ → ℕ → Bool → Bool → State
 state from end number written wants over = record { from = from; end = end; number = number; written = written; wants = wants; over = over }
@@ -38,11 +38,11 @@ stopped number rows = record { rows = rows; kept = []; next = state 0 0 number (
 
 -- the lines done have their rows. Where the room could take one more, those are all that are ended: of the line behind them the first 66
 -- bytes are kept, since no more decide its answer, and input is wanted. Otherwise what is left stays where it is, up to end
-abbrev pub fed : Bool → ℕ → ℕ → List ℕ → ℕ → Turn
-fed all room number held end = record {
-  rows = rowsOf room number held;
-  kept = cond all (take 66 (restOf room number held)) [];
-  next = state (cond all 0 (end - length (restOf room number held))) (cond all (length (take 66 (restOf room number held))) end) (number + length (doneOf room number held)) (length (rowsOf room number held)) all false;
+abbrev pub midTurn : Bool → ℕ → ℕ → List ℕ → ℕ → Turn
+midTurn all room number held end = record {
+  rows = rowsDone room number held;
+  kept = cond all (take 66 (leftIn room number held)) [];
+  next = state (cond all 0 (end - length (leftIn room number held))) (cond all (length (take 66 (leftIn room number held))) end) (number + length (doneIn room number held)) (length (rowsDone room number held)) all false;
 }
 
 -- none read, where some were wanted, is the end of the input, and what is held is a last line
@@ -51,7 +51,7 @@ turnOf buf room s got =
     cond (goesOn (length buf) room (s .number))
     (cond (s .wants && got =? 0)
     (stopped (s .number) (outputFrom (s .number) (lineOf (heldWith s got buf))))
-    (fed (64 ≤? room - length (rowsOf room (s .number) (heldWith s got buf))) room (s .number) (heldWith s got buf) (length (take (s .end + got) buf))))
+    (midTurn (64 ≤? room - length (rowsDone room (s .number) (heldWith s got buf))) room (s .number) (heldWith s got buf) (length (take (s .end + got) buf))))
     (stopped (s .number) [])
 
 -- what a turn gives: what it keeps and its rows are laid over the front of buffer and room, and all else in them is as it was
@@ -66,5 +66,5 @@ pub record Turned (s : State) (got : ℕ) (buf b out o : List ℕ) (r : State) :
 abbrev pub poured : List ℕ → List ℕ → List ℕ
 poured bytes sink = take (length sink) bytes ++ drop (length bytes) sink
 
-abbrev pub taken : List ℕ → ℕ → Printed
-taken bytes room = record { written = length (take room bytes); whole = length bytes ≤? room }
+abbrev pub tally : List ℕ → ℕ → Took
+tally bytes room = record { written = length (take room bytes); whole = length bytes ≤? room }

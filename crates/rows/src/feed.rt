@@ -7,7 +7,7 @@ ghost use Prim.Native.Nat.{_+_, _≤_, _<_, _^_, min};
 ghost use lib.ListN.{length, take};
 ghost use lib.Seq.{slice};
 ghost use Rattle.rows.specs.Program.{lineOf, outputFrom};
-ghost use Rattle.rows.specs.Given.{Wrote, IsFed, Within, firstLine};
+ghost use Rattle.rows.specs.Given.{Wrote, IsFed, firstLine};
 
 // What was made of a block: the bytes of it that were used, the bytes written, and the number of the next line.
 pub struct Fed {
@@ -68,7 +68,8 @@ pub(crate) fn least(a: usize, b: usize) -> usize
 // Moves what is left of a block, from a up to n, to its front: at most 66 bytes, since no more of a line decide its answer. Gives how
 // many that is.
 pub(crate) fn keep(buf: &mut [u8], a: usize, n: usize) -> usize
-    requires { ⌜ Within a n (length (now buf)) ⌝ }
+    requires { ⌜ a ≤ n ⌝ }
+    requires { ⌜ n ≤ length (now buf) ⌝ }
     ensures { λ r. ⌜ Wrote (now (buf .entry)) 0 (now (buf .exit)) r (take 66 (slice a n (now (buf .entry)))) ⌝ }
 {
     let k = least(66, n - a);

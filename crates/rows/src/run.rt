@@ -10,7 +10,7 @@ ghost use mathlib.Core.Bool.{true, false};
 ghost use Prim.Native.Nat.{_+_, _≤_, min};
 ghost use lib.ListN.{length};
 ghost use Rattle.rows.specs.Program.{printed};
-ghost use Rattle.rows.specs.Run.{state, start, goesOn, Turned, poured, taken};
+ghost use Rattle.rows.specs.Run.{state, start, goesOn, Turned, poured, tally};
 ghost use Rattle.rows.specs.Given.{Ready, Brought, Pours, Buffers};
 
 // What a run goes by between two turns: the bytes of the buffer that have no row yet, from `from` up to `end`; the number of their first
@@ -106,7 +106,7 @@ pub fn turn(buf: &mut [u8], got: usize, s: State, out: &mut [u8]) -> State
 }
 
 // How much of an output a sink took, and whether that was all of it.
-pub struct Printed {
+pub struct Took {
     pub written: usize,
     pub whole: bool,
 }
@@ -143,7 +143,7 @@ fn bring(input: &[u8], lengths: &[usize], a: usize, buf: &mut [u8], s: State) ->
 }
 
 // A write: the sink takes the bytes behind those that it has, as many as it has room for.
-fn pour(bytes: &[u8], sink: &mut [u8], p: Printed) -> Printed
+fn pour(bytes: &[u8], sink: &mut [u8], p: Took) -> Took
     requires { ⌜ p .written ≤ length (now sink) ⌝ }
     ensures { λ r. ⌜ Pours (now (bytes .entry)) p (now (sink .entry)) (now (sink .exit)) r ⌝ }
 {
@@ -151,19 +151,19 @@ fn pour(bytes: &[u8], sink: &mut [u8], p: Printed) -> Printed
     let left = sink.len() - at;
     let n = least(left, bytes.len());
     let end = put(&bytes[..n], sink, at);
-    Printed {
+    Took {
         written: end,
         whole: p.whole & (bytes.len() <= left),
     }
 }
 
-fn run(input: &[u8], lengths: &[usize], buf: &mut [u8], out: &mut [u8], sink: &mut [u8]) -> Printed
+fn run(input: &[u8], lengths: &[usize], buf: &mut [u8], out: &mut [u8], sink: &mut [u8]) -> Took
     requires { ⌜ Buffers (length (now buf)) (length (now out)) ⌝ }
-    ensures { λ r. ⌜ r ≡ taken (printed (now (input .entry))) (length (now (sink .entry))) ⌝ }
+    ensures { λ r. ⌜ r ≡ tally (printed (now (input .entry))) (length (now (sink .entry))) ⌝ }
     ensures { λ r. ⌜ now (sink .exit) ≡ poured (printed (now (input .entry))) (now (sink .entry)) ⌝ }
 {
     let mut s = begin();
-    let mut p = Printed {
+    let mut p = Took {
         written: 0,
         whole: true,
     };
@@ -180,8 +180,8 @@ fn run(input: &[u8], lengths: &[usize], buf: &mut [u8], out: &mut [u8], sink: &m
 
 // The program's output for an input that is all there, however it comes in blocks: a read that begins at place a of the input brings
 // `lengths[a]` bytes, if there are so many and the buffer has room for them.
-pub fn print(input: &[u8], lengths: &[usize], sink: &mut [u8]) -> Printed
-    ensures { λ r. ⌜ r ≡ taken (printed (now (input .entry))) (length (now (sink .entry))) ⌝ }
+pub fn print(input: &[u8], lengths: &[usize], sink: &mut [u8]) -> Took
+    ensures { λ r. ⌜ r ≡ tally (printed (now (input .entry))) (length (now (sink .entry))) ⌝ }
     ensures { λ r. ⌜ now (sink .exit) ≡ poured (printed (now (input .entry))) (now (sink .entry)) ⌝ }
 {
     let mut buf = [0u8; 256];

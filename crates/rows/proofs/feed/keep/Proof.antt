@@ -43,7 +43,7 @@ put-requires-2 : tie.Need-put-requires-2
 put-requires-2 c κs =
     let p = c .before .before .before in
     let l = p .before .before .before .before in
-    omega (arith, length-take (l .least .result) (p .put .last .1 .0), l .least .ensures, l .before .before .pre .rises, l .before .before .pre .ends)
+    omega (arith, length-take (l .least .result) (p .put .last .1 .0), l .least .ensures, l .before .before .pre .0, l .before .before .pre .1)
 
 same-length : tie.Need-same-length
 same-length c = search needs

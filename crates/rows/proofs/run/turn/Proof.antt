@@ -7,7 +7,7 @@ use lib.ListN.{length, take, drop}
 use Rattle.refusal.proofs.PaperLaws.{fails, holds}
 use Rattle.rows.specs.Run.{goesOn, heldWith}
 use Rattle.rows.proofs.PartLaws.{part-is, held-is, part-few}
-use Rattle.rows.proofs.TurnLaws.{On, on-is, turned-same, turned-stops, turned-ends, turned-goes, turned-waits}
+use Rattle.rows.proofs.TurnLaws.{Enough, enough-is, turned-same, turned-stops, turned-ends, turned-goes, turned-waits}
 use borrow.Author.Needs.{needs}
 use Rattle.rows.proofs.run.turn.Statement.{statement}
 use Rattle.rows.proofs.run.turn.Tie as tie
@@ -28,8 +28,8 @@ returns c =
 on : (c : tie.Else1) → goesOn (length (c .before .before .before .before .args .buf .now)) (length (c .before .before .before .before .args .out .now)) (c .before .before .before .before .args .s .number) ≡ true
 on c = holds (c .before .goes-on .ensures) (c .if1 .left)
 
-enough : (c : tie.Else1) → On (length (c .before .before .before .before .args .buf .now)) (length (c .before .before .before .before .args .out .now)) (c .before .before .before .before .args .s .number)
-enough c = let s = c .before .before .before .before .args in on-is (length (s .buf .now)) (length (s .out .now)) (s .s .number) (on c)
+enough : (c : tie.Else1) → Enough (length (c .before .before .before .before .args .buf .now)) (length (c .before .before .before .before .args .out .now)) (c .before .before .before .before .args .s .number)
+enough c = let s = c .before .before .before .before .args in enough-is (length (s .buf .now)) (length (s .out .now)) (s .s .number) (on c)
 
 -- what the code lends is what is held
 held : (c : tie.After-least) → take (c .before .reach .result - c .least .result) (drop (c .least .result) (c .before .before .before .before .before .before .args .buf .now)) ≡ heldWith (c .before .before .before .before .before .before .args .s) (c .before .before .before .before .before .before .args .got) (c .before .before .before .before .before .before .args .buf .now)
