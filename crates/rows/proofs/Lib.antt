@@ -4,4 +4,5 @@ pub mod FeedLaws
 pub mod RowTheorems
 pub mod PartLaws
 pub mod TurnLaws
+pub mod SinkLaws
 pub mod RunLaws

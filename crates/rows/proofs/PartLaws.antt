@@ -6,7 +6,7 @@ use Prim.Native.Nat.{ℕ, zero, suc, _+_, _-_, _≤_, _<_, min}
 use native.Mathlib.Omega.{arith}
 use lib.ListN.{length, take, drop, length-take, length-drop, drop-of-length-le}
 use lib.Seq.{slice, take-all, take-take, take-at, drop-length, take-nil, length-take-le}
-use Rattle.division.proofs.TestLaws.{both, le-or-less}
+use Rattle.division.proofs.TestLaws.{le-or-less}
 use Rattle.rows.specs.Given.{Wrote}
 use Rattle.rows.proofs.WriteLaws.{wrote-front}
 

@@ -6,11 +6,11 @@ use mathlib.Core.Logic.{⊎-elim}
 use Prim.Native.Nat.{ℕ, _+_, _-_, _*_, _≤_, _<_, _^_, min}
 use native.Mathlib.Nat.{add-zero}
 use native.Mathlib.Omega.{arith}
-use borrow.Author.Tests.{le-leb, lt-leb, eqb-true, eqb-false}
-use lib.ListN.{length, take, drop, length-append, length-take, length-drop, take-append-drop, drop-of-length-le}
-use lib.Seq.{take-all, take-at, take-append-seam, take-append-add, take-append-le, drop-append-add, drop-append-le, drop-drop, take-nil, length-take-le}
+use borrow.Author.Tests.{le-leb, eqb-true, eqb-false}
+use lib.ListN.{length, take, drop, length-append, length-drop, take-append-drop, drop-of-length-le}
+use lib.Seq.{take-at, take-append-seam, drop-append-le, drop-drop, length-take-le}
 use Rattle.division.specs.Words.{_=?_}
-use Rattle.division.proofs.TestLaws.{both, le-or-less, same-leb}
+use Rattle.division.proofs.TestLaws.{both, le-or-less}
 use Rattle.label.proofs.SplitLaws.{Free}
 use Rattle.rows.specs.declared.run.State.{State}
 use Rattle.rows.specs.declared.run.Took.{Took}
@@ -19,64 +19,8 @@ use Rattle.rows.specs.Given.{Wrote, Buffers, Ready, Brought, Pours}
 use Rattle.rows.specs.Run.{Turn, start, goesOn, heldWith, stopped, turnOf, Turned, poured, tally}
 use Rattle.rows.proofs.WriteLaws.{same-long, wrote-none}
 use Rattle.rows.proofs.RowTheorems.{last-counts}
-use Rattle.rows.proofs.PartLaws.{drop-min}
+use Rattle.rows.proofs.SinkLaws.{Sunk, sunk-none, sunk-more}
 use Rattle.rows.proofs.TurnLaws.{heldBy, after, Calm, unasked, Onward, turn-ends, turn-on, turn-written}
-
--- ---- the sink
-
--- what a sink has taken of some bytes, and what it tells
-pub record Sunk (sink₀ bytes sink : List ℕ) (p : Took) : Type 0 where
-  pub same : sink ≡ poured bytes sink₀
-  pub told : p ≡ tally bytes (length sink₀)
-
-pub sunk-none : (sink : List ℕ) → Sunk sink [] sink (record { written = 0; whole = true })
-sunk-none sink = record { same = rw (take-nil (length sink)); told = rw (take-nil (length sink), le-leb 0 (length sink) (omega arith)) }
-
-module _ {sink₀ bytes sink : List ℕ} {p : Took} (k : Sunk sink₀ bytes sink p) where
-  pub sunk-long : length sink ≡ length sink₀
-  sunk-long = ap length (k .same) ∙ simp (length-append, length-take, length-drop) (omega arith)
-
-  pub sunk-within : p .written ≤ length sink
-  sunk-within = rw (k .told) (omega (arith, length-take (length sink₀) bytes, sunk-long))
-
-  -- and of some more behind them
-  pub sunk-more : {more after : List ℕ} {r : Took} → Pours more p sink after r → Sunk sink₀ (bytes ++ more) after r
-  sunk-more {more} {after} {r} w = ⊎-elim fits full (le-or-less (length bytes) (length sink₀))
-    where
-      size : ℕ
-      size = length sink₀
-
-      both-told : {w : ℕ} {b : Bool} → r .written ≡ w → r .whole ≡ b → r ≡ record { written = w; whole = b }
-      both-told e f = rw (← e, ← f)
-
-      fits : length bytes ≤ size → Sunk sink₀ (bytes ++ more) after r
-      fits h =
-          let at : p .written ≡ length bytes = ap (λ (q : Took). q .written) (k .told) ∙ ap length (take-all size bytes h) in
-          let s : sink ≡ bytes ++ drop (length bytes) sink₀ = k .same ∙ rw (take-all size bytes h) in
-          let left : length sink - p .written ≡ size - length bytes = omega (arith, sunk-long) in
-          let x = take (size - length bytes) more in
-          let n : length bytes + length x ≡ min (length (bytes ++ more)) size = omega (arith, length-take (size - length bytes) more, length-append bytes more) in
-          let front : take size (bytes ++ more) ≡ bytes ++ x = ap (λ (m : ℕ). take m (bytes ++ more)) (let e : size ≡ length bytes + (size - length bytes) = omega arith in e) ∙ take-append-add bytes more (size - length bytes) in
-          let back : drop (length bytes + length x) sink ≡ drop (length (bytes ++ more)) sink₀ = rw s (drop-append-add bytes (drop (length bytes) sink₀) (length x) ∙ drop-drop (length x) (length bytes) sink₀ ∙ rw n (drop-min sink₀ (length (bytes ++ more)))) in
-          let begin : take (length bytes) sink ≡ bytes = rw s (take-append-seam bytes (drop (length bytes) sink₀)) in
-          let wrote = rw (at, rw at at left) at (w .wrote) in
-          record {
-            same = wrote .same ∙ rw (begin, back, front, append-assoc);
-            told = both-told (wrote .end ∙ rw front (sym (length-append bytes x))) (w .whole ∙ rw (k .told, le-leb (length bytes) size h) (same-leb (length more) (length sink - length (take size bytes)) (length (bytes ++ more)) size (λ l. omega (arith, length-append bytes more, sunk-long, ap length (take-all size bytes h))) (λ l. omega (arith, length-append bytes more, sunk-long, ap length (take-all size bytes h)))));
-          }
-
-      full : size < length bytes → Sunk sink₀ (bytes ++ more) after r
-      full h =
-          let at : p .written ≡ size = ap (λ (q : Took). q .written) (k .told) ∙ length-take-le size bytes (omega arith) in
-          let s : sink ≡ take size bytes = k .same ∙ rw (drop-of-length-le sink₀ {i = length bytes} (omega arith), append-nil) in
-          let left : length sink - p .written ≡ 0 = omega (arith, sunk-long) in
-          let front : take size (bytes ++ more) ≡ take size bytes = take-append-le size bytes more (omega arith) in
-          let back : drop (length (bytes ++ more)) sink₀ ≡ [] = drop-of-length-le sink₀ {i = length (bytes ++ more)} (omega (arith, length-append bytes more)) in
-          let wrote = rw (at, rw at at left) at (w .wrote) in
-          record {
-            same = wrote .same ∙ rw (front, back, append-nil, s) (rw (add-zero size) (take-append-drop size (take size bytes)));
-            told = both-told (wrote .end ∙ rw (front, length-take-le size bytes (omega arith)) (add-zero size)) (w .whole ∙ rw (k .told, lt-leb (length bytes) size h, lt-leb (length (bytes ++ more)) size (omega (arith, length-append bytes more))));
-          }
 
 -- ---- a read
 

@@ -1,4 +1,5 @@
--- A run of the program, turn by turn in bounded room: what it goes by between two turns, and what a turn makes of it.
+-- A run of the program, turn by turn in bounded room: what it goes by between two turns, and what a turn makes of it. Document 01 has no
+-- sentence on this; what a run prints is in Program.antt, and the promise of `print` is that.
 use Prim.Native.Nat.{ℕ, _+_, _-_, _^_, _≤_}
 use mathlib.Core.Path.{_≡_}
 use mathlib.Core.Bool.{Bool, true, false, cond, _&&_}
@@ -19,7 +20,8 @@ state from end number written wants over = record { from = from; end = end; numb
 abbrev pub start : State
 start = state 0 0 1 0 true false
 
--- there is room to keep 66 bytes of a line and read one more, room for the longest row, and a number for every line that the buffer can hold
+-- there is room to keep 66 bytes of a line and read one more, room for the longest row, and a number for every line that the buffer can
+-- hold; where not, the run is over
 abbrev pub goesOn : ℕ → ℕ → ℕ → Bool
 goesOn size room number = (67 ≤? size && 64 ≤? room) && number ≤? 2 ^ 64 - 1 - size
 
@@ -42,7 +44,9 @@ abbrev pub midTurn : Bool → ℕ → ℕ → List ℕ → ℕ → Turn
 midTurn all room number held end = record {
   rows = rowsDone room number held;
   kept = cond all (take 66 (leftIn room number held)) [];
-  next = state (cond all 0 (end - length (leftIn room number held))) (cond all (length (take 66 (leftIn room number held))) end) (number + length (doneIn room number held)) (length (rowsDone room number held)) all false;
+  next =
+      state (cond all 0 (end - length (leftIn room number held))) (cond all (length (take 66 (leftIn room number held))) end)
+      (number + length (doneIn room number held)) (length (rowsDone room number held)) all false;
 }
 
 -- none read, where some were wanted, is the end of the input, and what is held is a last line
@@ -51,7 +55,8 @@ turnOf buf room s got =
     cond (goesOn (length buf) room (s .number))
     (cond (s .wants && got =? 0)
     (stopped (s .number) (outputFrom (s .number) (lineOf (heldWith s got buf))))
-    (midTurn (64 ≤? room - length (rowsDone room (s .number) (heldWith s got buf))) room (s .number) (heldWith s got buf) (length (take (s .end + got) buf))))
+    (midTurn (64 ≤? room - length (rowsDone room (s .number) (heldWith s got buf)))
+    room (s .number) (heldWith s got buf) (length (take (s .end + got) buf))))
     (stopped (s .number) [])
 
 -- what a turn gives: what it keeps and its rows are laid over the front of buffer and room, and all else in them is as it was
@@ -62,7 +67,7 @@ pub record Turned (s : State) (got : ℕ) (buf b out o : List ℕ) (r : State) :
   pub held : r .end ≤ length buf
   pub fits : r .written ≤ length out
 
--- a sink takes as many bytes as it has room for, and it is told how many, and whether those were all
+-- a sink takes as many bytes as it has room for; how many those are, and whether they are all
 abbrev pub poured : List ℕ → List ℕ → List ℕ
 poured bytes sink = take (length sink) bytes ++ drop (length bytes) sink
 

@@ -23,6 +23,7 @@ fn put_byte(b: u8, out: &mut [u8], at: usize) -> usize
     at + 1
 }
 
+// Bytes as they are.
 pub(crate) fn put(bytes: &[u8], out: &mut [u8], at: usize) -> usize
     requires { ⌜ at + length (now bytes) ≤ length (now out) ⌝ }
     ensures { λ r. ⌜ Wrote (now (out .entry)) at (now (out .exit)) r (now (bytes .entry)) ⌝ }

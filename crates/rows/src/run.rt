@@ -24,6 +24,7 @@ pub struct State {
     pub over: bool,
 }
 
+// With line 1, and nothing held.
 pub fn begin() -> State
     ensures { λ r. ⌜ r ≡ start ⌝ }
 {
@@ -37,6 +38,7 @@ pub fn begin() -> State
     }
 }
 
+// The end of a run.
 fn stop(number: u64, written: usize) -> State
     ensures { λ r. ⌜ r ≡ state 0 0 number written false true ⌝ }
 {
@@ -50,6 +52,7 @@ fn stop(number: u64, written: usize) -> State
     }
 }
 
+// Whether there is room, and a number for each line.
 fn goes_on(size: usize, room: usize, number: u64) -> bool
     ensures { λ r. ⌜ r ≡ goesOn size room number ⌝ }
 {

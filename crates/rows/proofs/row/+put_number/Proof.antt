@@ -1,13 +1,10 @@
 -- At most eight digits, or the number without its last four and these behind it. The measure is the number. Assumes nothing.
-use mathlib.Core.Path.{_≡_, ap, _∙_}
 use mathlib.Core.List.{_++_}
 use Prim.Native.Nat.{ℕ, _<_, _+_, _/_, _%_}
 use native.Mathlib.Omega.{arith}
 use borrow.Author.Needs.{needs}
 use borrow.Fn.Kinds.{In}
 use borrow.Fn.PlainCycle.{Measures, is, falls, and}
-use lib.ListN.{length, length-append}
-use Rattle.label.specs.Text.{decimal}
 use Rattle.rows.specs.Given.{pair}
 use Rattle.rows.proofs.WriteLaws.{Behind, decimal-four, then}
 use Rattle.rows.proofs.row.put_number.Reads as put-number

@@ -1,11 +1,7 @@
 -- At most two digits, or what stands before the last two and these behind it. Assumes nothing.
-use mathlib.Core.Path.{_≡_, ap, _∙_}
-use mathlib.Core.List.{_++_}
-use Prim.Native.Nat.{_+_, _/_, _%_}
+use Prim.Native.Nat.{_/_, _%_}
 use native.Mathlib.Omega.{arith}
 use borrow.Author.Needs.{needs}
-use lib.ListN.{length, length-append}
-use Rattle.label.specs.Text.{decimal}
 use Rattle.rows.specs.Given.{pair}
 use Rattle.rows.proofs.WriteLaws.{Behind, decimal-pair, then}
 use Rattle.rows.proofs.row.put_short.Statement.{statement}

@@ -4,7 +4,8 @@ use native.Mathlib.Omega.{arith}
 use lib.ListN.{length}
 use lib.Seq.{length-take-le}
 use Rattle.refusal.proofs.PaperLaws.{fails, holds}
-use Rattle.rows.proofs.RunLaws.{Running, toGo, run-first, run-on, run-less, run-end, sunk-within, sunk-long}
+use Rattle.rows.proofs.SinkLaws.{sunk-within, sunk-long}
+use Rattle.rows.proofs.RunLaws.{Running, toGo, run-first, run-on, run-less, run-end}
 use Rattle.rows.proofs.run.run.Statement.{statement}
 use Rattle.rows.proofs.run.run.Tie as tie
 
