@@ -181,8 +181,9 @@ fn run(input: &[u8], lengths: &[usize], buf: &mut [u8], out: &mut [u8], sink: &m
     p
 }
 
-// The program's output for an input that is all there, however it comes in blocks: a read that begins at place a of the input brings
-// `lengths[a]` bytes, if there are so many and the buffer has room for them.
+// The program's output for an input that is all there, however it comes in blocks, laid into a sink that takes as much as it has room for.
+// A read that begins at place a of the input brings `lengths[a]` bytes, but at least one, and no more than there are and find room; where
+// `lengths` ends before a, as many as find room.
 pub fn print(input: &[u8], lengths: &[usize], sink: &mut [u8]) -> Took
     ensures { λ r. ⌜ r ≡ tally (printed (now (input .entry))) (length (now (sink .entry))) ⌝ }
     ensures { λ r. ⌜ now (sink .exit) ≡ poured (printed (now (input .entry))) (now (sink .entry)) ⌝ }
