@@ -19,3 +19,4 @@ pub mod MemberLaws
 pub mod CoverTheorems
 pub mod SheetTheorems
 pub mod AnswerLaws
+pub mod MetreLaws

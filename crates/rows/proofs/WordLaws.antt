@@ -2,28 +2,25 @@
 use mathlib.Core.Path.{_≡_, refl, sym, ap, _∙_}
 use mathlib.Core.Bool.{true, false}
 use mathlib.Core.List.{List, [], _∷_, _++_, flatMap, append-assoc, append-nil}
-use Prim.Native.Nat.{ℕ, _+_, _-_, _*_, _/_, _≤_, _<_}
+use Prim.Native.Nat.{ℕ, _+_, _*_, _/_, _≤_, _<_}
 use native.Mathlib.Omega.{arith}
 use borrow.Author.Tests.{leb-true, le-leb}
-use lib.IntN.{ℤ, pos, natAbs}
+use lib.IntN.{ℤ, natAbs}
 use lib.ListN.{length}
 use mir.Syntax.{w64}
 use mir.Val.{toZ, ofZ}
 use Rattle.refusal.specs.Paper.{answer, refused, isAnswer}
 use Rattle.refusal.specs.Numbers.{onPaper}
 use Rattle.refusal.specs.declared.Refusal.{Refusal}
-use Rattle.refusal.proofs.PaperLaws.{same-answer, no-answer}
+use Rattle.refusal.proofs.PaperLaws.{no-answer}
 use Rattle.division.specs.declared.Edges.{Edges}
-use Rattle.division.specs.Table.{width, height}
-use Rattle.division.specs.Grid.{millimetres, westOf, northOf, edgesOf}
-use Rattle.division.specs.Sheet.{isSheet, scaleOf, placeOf, groundOf, cornersOf}
+use Rattle.division.specs.Sheet.{isSheet, groundOf, cornersOf}
 use Rattle.division.proofs.TestLaws.{from-pos, returned}
-use Rattle.division.proofs.NumberLaws.{on-grid}
-use Rattle.division.proofs.GridLaws.{wide-in, high-in, north-is}
+use Rattle.division.proofs.MetreLaws.{Hundreds, corners-ground, corners-hundreds}
 use Rattle.label.specs.Text.{text, join, decimal}
 use Rattle.catalogue.specs.Line.{readLine}
 use Rattle.rows.specs.Program.{metres, frameWords, words, outputLine}
-use Rattle.rows.specs.Given.{spaced, Short, Framed}
+use Rattle.rows.specs.Given.{spaced, Short, FourEdges}
 use Rattle.label.proofs.DecimalLaws.{decimal-most}
 
 -- ---- words behind spaces
@@ -57,8 +54,9 @@ module _ {x : ℤ} (s : Short x) where
   pub short-again : Short (toZ w64 (ofZ w64 x))
   short-again = rw short-back s
 
-short : (n : ℕ) → n < 10_000_000_000 → Short (pos n)
-short n h = record { plain = le-leb 0 n (omega arith); few = omega arith }
+-- an edge of so many hundred metres is one
+short : {low high : ℕ} {x : ℤ} → Hundreds low high x → high < 100_000 → Short x
+short h l = rw (h .is) (record { plain = le-leb 0 (h .count * 100_000) (omega arith); few = omega (arith, h .to) })
 
 -- ---- a sheet
 
@@ -66,34 +64,11 @@ module _ (n : ℕ) (h : isSheet n ≡ true) where
   pub sheet-most : length (decimal n) ≤ 7
   sheet-most = let l = leb-true n 7_953_173 h in decimal-most 6 n (omega arith) (omega arith)
 
-  west-short : (c : ℕ) → c * millimetres (width (scaleOf n)) ≤ 600_000_000 → Short (westOf (scaleOf n) c)
-  west-short c l = short (200_000_000 + c * millimetres (width (scaleOf n))) (omega arith)
-
-  north-short : (r : ℕ) → r * millimetres (height (scaleOf n)) ≤ 600_000_000 → Short (northOf (scaleOf n) r)
-  north-short r l = rw (north-is (scaleOf n) r l) (short (5_170_000_000 - r * millimetres (height (scaleOf n))) (omega arith))
-
-  ground-framed : {at room : ℕ} → at + 32 ≤ room → Framed (groundOf n) at room
-  unfolding edgesOf
-  ground-framed f =
-      let o = on-grid n h in
-      record {
-        west = west-short (placeOf n .column) (wide-in (o .scale) (placeOf n .column) (omega (arith, o .in-columns)));
-        east = west-short (placeOf n .column + 1) (wide-in (o .scale) (placeOf n .column + 1) (omega (arith, o .in-columns)));
-        south = north-short (placeOf n .row + 1) (high-in (o .scale) (placeOf n .row + 1) (omega (arith, o .in-rows)));
-        north = north-short (placeOf n .row) (high-in (o .scale) (placeOf n .row) (omega (arith, o .in-rows)));
-        fits = f;
-      }
-
-  corners : cornersOf n ≡ answer (groundOf n)
-  unfolding cornersOf
-  corners = rw h
-
-  -- its corners are answered
-  pub corners-are : {e : Edges} → answer e ≡ cornersOf n → e ≡ groundOf n
-  corners-are q = same-answer (q ∙ corners)
-
-  pub framed : {e : Edges} {at room : ℕ} → answer e ≡ cornersOf n → at + 32 ≤ room → Framed e at room
-  framed q f = rw (corners-are q) (ground-framed f)
+  -- its corners are answered, and their edges are short
+  pub framed : {e : Edges} {at room : ℕ} → answer e ≡ cornersOf n → at + 32 ≤ room → FourEdges e at room
+  framed q f =
+      let k = corners-hundreds n h q in
+      record { west = short (k .west) (omega arith); east = short (k .east) (omega arith); south = short (k .south) (omega arith); north = short (k .north) (omega arith); fits = f }
 
   pub not-refused : (why : Refusal) → onPaper why ≡ cornersOf n → ⊥
-  not-refused why q = let z : true ≡ false = ap isAnswer (sym (q ∙ corners)) ∙ no-answer Edges why in let y : _≡_ {A = ℕ} 0 1 = cc in omega arith
+  not-refused why q = let z : true ≡ false = ap isAnswer (sym (q ∙ corners-ground n h)) ∙ no-answer Edges why in let y : _≡_ {A = ℕ} 0 1 = cc in omega arith

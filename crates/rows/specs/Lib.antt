@@ -1,3 +1,3 @@
 pub mod Program
-pub mod Rows
 pub mod Given
+pub mod Run

@@ -1,20 +1,30 @@
 -- What the program prints. Document 01, "The program".
-use Prim.Native.Nat.{ℕ, _+_, _/_}
+use Prim.Native.Nat.{ℕ, _+_, _-_, _/_}
 use Prim.Native.Char.{code}
-use mathlib.Core.Bool.{cond}
 use mathlib.Core.List.{List, [], _∷_, _++_}
 use lib.IntN.{ℤ, natAbs}
+use lib.ListN.{length, getD, take}
 use Rattle.refusal.specs.Paper.{Paper, answer, refused}
 use Rattle.division.specs.declared.Edges.{Edges}
-use Rattle.division.specs.Words.{_=?_}
 use Rattle.division.specs.Sheet.{groundOf}
-use Rattle.label.specs.Text.{text, onFirst, join, decimal}
+use Rattle.label.specs.Text.{text, split, join, decimal}
 use Rattle.catalogue.specs.Line.{readLine}
+
+-- the lines that a line feed ends, and what stands behind the last line feed
+unfoldable pub endedLines : List ℕ → List (List ℕ)
+endedLines input = take (length (split (code "\n") input) - 1) (split (code "\n") input)
+
+unfoldable pub unended : List ℕ → List ℕ
+unended input = getD (split (code "\n") input) (length (split (code "\n") input) - 1) []
+
+-- nothing is no line
+abbrev pub lineOf : List ℕ → List (List ℕ)
+lineOf [] = []
+lineOf (b ∷ line) = (b ∷ line) ∷ []
 
 -- "A last line without a line feed counts. Empty input prints nothing"
 unfoldable pub linesOf : List ℕ → List (List ℕ)
-linesOf [] = []
-linesOf (b ∷ input) = cond (b =? code "\n") ([] ∷ linesOf input) (onFirst b (linesOf input))
+linesOf input = endedLines input ++ lineOf (unended input)
 
 abbrev pub metres : ℤ → List ℕ
 metres x = decimal (natAbs x / 1_000)

@@ -12,8 +12,7 @@ ghost use Rattle.label.specs.Text.{decimal};
 ghost use Rattle.division.specs.Answers.{sheetPaper};
 ghost use Rattle.refusal.specs.Numbers.{onPaper};
 ghost use Rattle.rows.specs.Program.{metres, frameWords, words, outputLine};
-ghost use Rattle.rows.specs.Rows.{Wrote};
-ghost use Rattle.rows.specs.Given.{spaced, pair, Small, Edge, Framed, Answered};
+ghost use Rattle.rows.specs.Given.{Wrote, spaced, pair, Small, Edge, FourEdges, Answered};
 
 // Each of the functions that put something into the room gives the place behind it.
 fn put_byte(b: u8, out: &mut [u8], at: usize) -> usize
@@ -22,6 +21,19 @@ fn put_byte(b: u8, out: &mut [u8], at: usize) -> usize
 {
     out[at] = b;
     at + 1
+}
+
+// Bytes as they are.
+pub(crate) fn put(bytes: &[u8], out: &mut [u8], at: usize) -> usize
+    requires { ⌜ at + length (now bytes) ≤ length (now out) ⌝ }
+    ensures { λ r. ⌜ Wrote (now (out .entry)) at (now (out .exit)) r (now (bytes .entry)) ⌝ }
+{
+    let mut i: usize = 0;
+    while i < bytes.len() {
+        out[at + i] = bytes[i];
+        i += 1;
+    }
+    at + i
 }
 
 // Two digits, and four.
@@ -111,7 +123,7 @@ fn put_metres(x: i64, out: &mut [u8], at: usize) -> usize
 
 // West, east, south and north, each behind a space.
 fn put_edges(e: Edges, out: &mut [u8], at: usize) -> usize
-    requires { ⌜ Framed e at (length (now out)) ⌝ }
+    requires { ⌜ FourEdges e at (length (now out)) ⌝ }
     ensures { λ r. ⌜ Wrote (now (out .entry)) at (now (out .exit)) r (spaced (frameWords e)) ⌝ }
     ensures { λ r. ⌜ r ≤ at + 32 ⌝ }
 {
@@ -121,24 +133,12 @@ fn put_edges(e: Edges, out: &mut [u8], at: usize) -> usize
     put_metres(e.north, out, c)
 }
 
-fn put_word(word: &[u8], out: &mut [u8], at: usize) -> usize
-    requires { ⌜ at + length (now word) ≤ length (now out) ⌝ }
-    ensures { λ r. ⌜ Wrote (now (out .entry)) at (now (out .exit)) r (now (word .entry)) ⌝ }
-{
-    let mut i: usize = 0;
-    while i < word.len() {
-        out[at + i] = word[i];
-        i += 1;
-    }
-    at + i
-}
-
 fn put_refusal(why: Refusal, out: &mut [u8], at: usize) -> usize
     requires { ⌜ at + 19 ≤ length (now out) ⌝ }
     ensures { λ r. ⌜ Wrote (now (out .entry)) at (now (out .exit)) r (spaced (words (onPaper why))) ⌝ }
     ensures { λ r. ⌜ r ≤ at + 19 ⌝ }
 {
-    let a = put_word(b" refused", out, at);
+    let a = put(b" refused", out, at);
     let number = why.numbered().0;
     put_spaced(number as u64, out, a)
 }

@@ -1,80 +1,75 @@
--- After i turns the first i bytes of what is kept stand at the front. The measure is what is left. Assumes nothing.
-use mathlib.Core.Path.{_≡_, refl}
-use Prim.Native.Nat.{_+_, _-_, _≤_, _<_, min}
+-- The first 66 bytes, or all of fewer, go by way of a line of their own, so that none is overwritten before it is read. Assumes nothing.
+use mathlib.Core.Path.{sym}
 use native.Mathlib.Omega.{arith}
+use lib.ListN.{length-take}
+use lib.Seq.{length-take-le}
 use borrow.Author.Needs.{needs}
-use lib.ListN.{length, length-set}
-use lib.Seq.{paste, paste-zero}
-use Rattle.rows.specs.Rows.{keptOf}
-use Rattle.rows.proofs.WriteLaws.{moved, kept-long, kept-at, wrote-word}
+use Rattle.rows.proofs.WriteLaws.{same-long}
+use Rattle.rows.proofs.PartLaws.{kept-is}
 use Rattle.rows.proofs.feed.keep.Statement.{statement}
 use Rattle.rows.proofs.feed.keep.Tie as tie
 
-abbrev Inv-loop : tie.InvT-loop
-Inv-loop buf₀ a n left k i₀ buf i = (i ≤ k) × (k ≡ min 66 (min n (length buf₀) - a)) × (length buf ≡ length buf₀) × (buf ≡ paste buf₀ 0 (keptOf buf₀ a n) i)
+sub-least : tie.Need-sub-least
+sub-least c = search needs
 
-abbrev μ-loop : tie.MeasureT-loop
-μ-loop buf₀ a n left k i₀ buf i = k - i
-
-left-of-requires : tie.Need-left-of-requires Inv-loop μ-loop
-left-of-requires c κs = search needs
-
-least-requires : tie.Need-least-requires Inv-loop μ-loop
+least-requires : tie.Need-least-requires
 least-requires c κs = search needs
 
-loop-holds : tie.Need-loop-holds Inv-loop μ-loop
-loop-holds c =
-    let s = c .before .before .before .args in
-    (omega arith, rw (c .before .left-of .ensures) at (c .least .ensures), refl, paste-zero (s .buf .now) 0 (keptOf (s .buf .now) (s .a) (s .n)))
+add-e : tie.Need-add-e
+add-e c = search needs
 
-add-buf : tie.Need-add-buf Inv-loop μ-loop
-add-buf c = omega arith
+sub-put : tie.Need-sub-put
+sub-put c = search needs
 
-slice-read-buf : tie.Need-slice-read-buf Inv-loop μ-loop
-slice-read-buf c = omega arith
+part-put-start : tie.Need-part-put-start
+part-put-start c = search needs
 
-slice-write-buf : tie.Need-slice-write-buf Inv-loop μ-loop
-slice-write-buf c = omega arith
+part-put-end : tie.Need-part-put-end
+part-put-end c = search needs
 
-add-i : tie.Need-add-i Inv-loop μ-loop
-add-i c = omega arith
+slice-aggregate-put : tie.Need-slice-aggregate-put
+slice-aggregate-put c = search needs
 
-loop-less : tie.Need-loop-less Inv-loop μ-loop
-loop-less c = omega arith
+put-requires : tie.Need-put-requires
+put-requires c κs = search needs
 
-loop-again : tie.Need-loop-again Inv-loop μ-loop
-loop-again c =
-    let p = c .before .before .loop in
-    let s = c .before .before .before .before .before .before .args in
-    let d = s .buf .now in
-    let l : p .i < length (keptOf d (s .a) (s .n)) = omega (arith, kept-long d (s .a) (s .n)) in
-    (omega arith, p .inv .1, simp length-set (p .inv .2), rw (p .inv .3) (moved d (keptOf d (s .a) (s .n)) (s .a) (p .i) (omega arith) l (kept-at d (s .a) (s .n) (p .i) l)))
+array-share-prefix-line : tie.Need-array-share-prefix-line
+array-share-prefix-line c = search needs
 
-same-length : tie.Need-same-length Inv-loop μ-loop
-same-length c = omega arith
+slice-aggregate-put-2 : tie.Need-slice-aggregate-put-2
+slice-aggregate-put-2 c = sym (length-take-le _ _ (omega (arith, c .before .before .before .before .before .before .least .ensures, same-long (c .before .before .put .ensures))))
 
-returns : tie.Need-returns Inv-loop μ-loop
+put-requires-2 : tie.Need-put-requires-2
+put-requires-2 c κs =
+    let p = c .before .before .before in
+    let l = p .before .before .before .before in
+    omega (arith, length-take (l .least .result) (p .put .last .1 .0), l .least .ensures, l .before .before .pre .0, l .before .before .pre .1)
+
+same-length : tie.Need-same-length
+same-length c = search needs
+
+returns : tie.Need-returns
 returns c =
-    let p = c .before .loop in
-    let s = c .before .before .before .before .before .args in
-    let d = s .buf .now in
-    let e : 0 + p .i ≡ c .before .before .least .result = omega arith in
-    rw (p .inv .3, ← e) (wrote-word d 0 (keptOf d (s .a) (s .n)) (p .i) (omega (arith, kept-long d (s .a) (s .n))) (omega arith))
+    let q = c .before .before in
+    let p = q .before .before .before .before in
+    let l = p .before .before .before .before in
+    let s = l .before .before in
+    rw (kept-is (s .args .buf .now) (s .args .a) (s .args .n) (l .least .result) (s .pre) (l .least .ensures) (p .put .ensures)) at (q .put2 .ensures)
 
 pub keep-spec : {M : Type 1} → statement M
 keep-spec =
     tie.close
     (tie.spec
-    Inv-loop
-    μ-loop
-    left-of-requires
+    sub-least
     least-requires
-    loop-holds
-    add-buf
-    slice-read-buf
-    slice-write-buf
-    add-i
-    loop-less
-    loop-again
+    add-e
+    sub-put
+    part-put-start
+    part-put-end
+    slice-aggregate-put
+    put-requires
+    array-share-prefix-line
+    slice-aggregate-put-2
+    put-requires-2
     same-length
     returns)

@@ -1,15 +1,12 @@
 -- At most eight digits, or the number without its last four and these behind it. The measure is the number. Assumes nothing.
-use mathlib.Core.Path.{_≡_, ap, _∙_}
 use mathlib.Core.List.{_++_}
 use Prim.Native.Nat.{ℕ, _<_, _+_, _/_, _%_}
 use native.Mathlib.Omega.{arith}
 use borrow.Author.Needs.{needs}
 use borrow.Fn.Kinds.{In}
 use borrow.Fn.PlainCycle.{Measures, is, falls, and}
-use lib.ListN.{length, length-append}
-use Rattle.label.specs.Text.{decimal}
 use Rattle.rows.specs.Given.{pair}
-use Rattle.rows.proofs.WriteLaws.{decimal-four, then}
+use Rattle.rows.proofs.WriteLaws.{Behind, decimal-four, then}
 use Rattle.rows.proofs.row.put_number.Reads as put-number
 use Rattle.rows.proofs.row.put_number.Kinds as put-number-kinds
 use Rattle.rows.proofs.row.+put_number.Lts-put_number as put-number-lts
@@ -42,22 +39,19 @@ put-number-returns : (t : ℕ) → put-number-lts.Need-returns (known t) (put-nu
 put-number-returns t c = search needs
 
 -- the digits of a longer number
-more : (t : ℕ) (c : put-number-lts.Else1 (known t) (put-number-at t) put-number.Post) → decimal (c .before .before .args .n) ≡ decimal (c .before .before .args .n / 10_000) ++ (pair (c .before .before .args .n % 10_000 / 100) ++ pair (c .before .before .args .n % 10_000 % 100))
+more : (t : ℕ) (c : put-number-lts.Else1 (known t) (put-number-at t) put-number.Post) → Behind (c .before .before .args .n) (c .before .before .args .n / 10_000) (pair (c .before .before .args .n % 10_000 / 100) ++ pair (c .before .before .args .n % 10_000 % 100))
 more t c = let a = c .before .before in decimal-four (a .args .n) (omega (arith, c .if1 .left)) (a .fits .n .fits)
-
-longer : (t : ℕ) (c : put-number-lts.Else1 (known t) (put-number-at t) put-number.Post) → length (decimal (c .before .before .args .n)) ≡ length (decimal (c .before .before .args .n / 10_000)) + 4
-longer t c = ap length (more t c) ∙ length-append (decimal (c .before .before .args .n / 10_000)) _
 
 put-number-put-number-requires : (t : ℕ) → put-number-lts.Need-put-number-requires (known t) (put-number-at t) put-number.Post
 put-number-put-number-requires t c κs =
     let a = c .before .before .before in
-    (omega (arith, a .pre .0, c .before .if1 .left), omega (arith, a .pre .1, longer t (c .before)))
+    (omega (arith, a .pre .0, c .before .if1 .left), omega (arith, a .pre .1, more t (c .before) .long))
 
 put-number-put-four-requires : (t : ℕ) → put-number-lts.Need-put-four-requires (known t) (put-number-at t) put-number.Post
 put-number-put-four-requires t c κs =
     let p = c .before .before .before in
     let e = p .before .before in
-    record { few = omega arith; fits = omega (arith, e .before .before .pre .1, longer t e, p .put-number .ensures .end, p .put-number .kept .1 .0) }
+    record { few = omega arith; fits = omega (arith, e .before .before .pre .1, more t e .long, p .put-number .ensures .end, p .put-number .kept .1 .0) }
 
 put-number-same-length-2 : (t : ℕ) → put-number-lts.Need-same-length-2 (known t) (put-number-at t) put-number.Post
 put-number-same-length-2 t c = search needs
@@ -65,7 +59,7 @@ put-number-same-length-2 t c = search needs
 put-number-returns-2 : (t : ℕ) → put-number-lts.Need-returns-2 (known t) (put-number-at t) put-number.Post
 put-number-returns-2 t c =
     let p = c .before .before .before .before .before .before in
-    rw (more t (p .before .before)) (then (p .put-number .ensures) (c .before .before .put-four .ensures))
+    rw (more t (p .before .before) .is) (then (p .put-number .ensures) (c .before .before .put-four .ensures))
 
 pub +put-number-spec : {M : Type 1} → statement M
 +put-number-spec = close μ-put-number λ t. put-number-lts.spec (known t)

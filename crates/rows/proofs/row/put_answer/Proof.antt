@@ -6,7 +6,8 @@ use Rattle.refusal.specs.Paper.{answer}
 use Rattle.division.specs.Sheet.{isSheet, cornersOf}
 use Rattle.division.specs.Answers.{sheetPaper, cornersPaper}
 use Rattle.rows.proofs.WriteLaws.{then}
-use Rattle.rows.proofs.WordLaws.{sheet-words, sheet-most, corners-are, framed, not-refused}
+use Rattle.division.proofs.MetreLaws.{corners-are}
+use Rattle.rows.proofs.WordLaws.{sheet-words, sheet-most, framed, not-refused}
 use borrow.Author.Needs.{needs}
 use Rattle.rows.proofs.row.put_answer.Statement.{statement}
 use Rattle.rows.proofs.row.put_answer.Tie as tie

@@ -1,13 +1,10 @@
 -- At most four digits, or what stands before the last four and these behind it. Assumes nothing.
-use mathlib.Core.Path.{_≡_, ap, _∙_}
 use mathlib.Core.List.{_++_}
 use Prim.Native.Nat.{_+_, _/_, _%_}
 use native.Mathlib.Omega.{arith}
 use borrow.Author.Needs.{needs}
-use lib.ListN.{length, length-append}
-use Rattle.label.specs.Text.{decimal}
 use Rattle.rows.specs.Given.{pair}
-use Rattle.rows.proofs.WriteLaws.{decimal-four, then}
+use Rattle.rows.proofs.WriteLaws.{Behind, decimal-four, then}
 use Rattle.rows.proofs.row.put_long.Statement.{statement}
 use Rattle.rows.proofs.row.put_long.Tie as tie
 
@@ -21,22 +18,19 @@ returns : tie.Need-returns
 returns c = search needs
 
 -- the digits of a number of more than four
-more : (c : tie.Else1) → decimal (c .before .before .args .v) ≡ decimal (c .before .before .args .v / 10_000) ++ (pair (c .before .before .args .v % 10_000 / 100) ++ pair (c .before .before .args .v % 10_000 % 100))
+more : (c : tie.Else1) → Behind (c .before .before .args .v) (c .before .before .args .v / 10_000) (pair (c .before .before .args .v % 10_000 / 100) ++ pair (c .before .before .args .v % 10_000 % 100))
 more c = let a = c .before .before in decimal-four (a .args .v) (c .if1 .left) (a .fits .v .fits)
-
-longer : (c : tie.Else1) → length (decimal (c .before .before .args .v)) ≡ length (decimal (c .before .before .args .v / 10_000)) + 4
-longer c = ap length (more c) ∙ length-append (decimal (c .before .before .args .v / 10_000)) _
 
 put-short-requires-2 : tie.Need-put-short-requires-2
 put-short-requires-2 c κs =
     let a = c .before .before .before in
-    record { few = omega (arith, a .pre .few); fits = omega (arith, a .pre .fits, longer (c .before)) }
+    record { few = omega (arith, a .pre .few); fits = omega (arith, a .pre .fits, more (c .before) .long) }
 
 put-four-requires : tie.Need-put-four-requires
 put-four-requires c κs =
     let p = c .before .before .before in
     let e = p .before .before in
-    record { few = omega arith; fits = omega (arith, e .before .before .pre .fits, longer e, p .put-short2 .ensures .end, p .put-short2 .kept .1 .0) }
+    record { few = omega arith; fits = omega (arith, e .before .before .pre .fits, more e .long, p .put-short2 .ensures .end, p .put-short2 .kept .1 .0) }
 
 same-length-2 : tie.Need-same-length-2
 same-length-2 c = search needs
@@ -44,7 +38,7 @@ same-length-2 c = search needs
 returns-2 : tie.Need-returns-2
 returns-2 c =
     let p = c .before .before .before .before .before .before in
-    rw (more (p .before .before)) (then (p .put-short2 .ensures) (c .before .before .put-four .ensures))
+    rw (more (p .before .before) .is) (then (p .put-short2 .ensures) (c .before .before .put-four .ensures))
 
 pub put-long-spec : {M : Type 1} → statement M
 put-long-spec =

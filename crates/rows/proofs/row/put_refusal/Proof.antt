@@ -10,11 +10,11 @@ use borrow.Author.Needs.{needs}
 use Rattle.rows.proofs.row.put_refusal.Statement.{statement}
 use Rattle.rows.proofs.row.put_refusal.Tie as tie
 
-slice-aggregate-put-word : tie.Need-slice-aggregate-put-word
-slice-aggregate-put-word c = search needs
+slice-aggregate-put : tie.Need-slice-aggregate-put
+slice-aggregate-put c = search needs
 
-put-word-requires : tie.Need-put-word-requires
-put-word-requires c κs = search needs
+put-requires : tie.Need-put-requires
+put-requires c κs = search needs
 
 numbered-requires : tie.Need-numbered-requires
 numbered-requires c κs = search needs
@@ -28,7 +28,7 @@ few c = decimal-most 9 (c .numbered .result .0) (omega arith) (omega arith)
 
 put-spaced-requires : tie.Need-put-spaced-requires
 put-spaced-requires c κs =
-    let w = c .before .before .before .before .put-word in
+    let w = c .before .before .before .before .put in
     omega (arith, w .ensures .end, w .kept .1 .0, few (c .before))
 
 same-length : tie.Need-same-length
@@ -38,7 +38,7 @@ returns : tie.Need-returns
 unfolding text
 returns c =
     let n = c .before .before .before .before in
-    let w = n .before .before .before .put-word in
+    let w = n .before .before .before .put in
     let s = c .before .before .put-spaced .ensures in (
       rw (← n .numbered .ensures .told, refusal-words (n .numbered .result .0) (n .numbered .result .1)) (then (w .ensures) s),
       omega (arith, w .ensures .end, s .end, few n),
@@ -48,8 +48,8 @@ pub put-refusal-spec : {M : Type 1} → statement M
 put-refusal-spec =
     tie.close
     (tie.spec
-    slice-aggregate-put-word
-    put-word-requires
+    slice-aggregate-put
+    put-requires
     numbered-requires
     cast-put-spaced
     put-spaced-requires

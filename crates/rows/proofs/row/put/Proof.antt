@@ -1,22 +1,22 @@
--- After i turns the first i bytes of the word stand in the room. The measure is what is left. Assumes nothing.
+-- After i turns the first i bytes of the bytes stand in the room. The measure is what is left. Assumes nothing.
 use mathlib.Core.Path.{_≡_, refl}
 use Prim.Native.Nat.{_-_, _≤_}
 use native.Mathlib.Omega.{arith}
 use lib.ListN.{length, length-set}
 use lib.Seq.{paste, paste-zero, paste-suc}
 use native.Mathlib.Numerals.{add-one}
-use Rattle.rows.proofs.WriteLaws.{wrote-word}
-use Rattle.rows.proofs.row.put_word.Statement.{statement}
-use Rattle.rows.proofs.row.put_word.Tie as tie
+use Rattle.rows.proofs.WriteLaws.{wrote-copy}
+use Rattle.rows.proofs.row.put.Statement.{statement}
+use Rattle.rows.proofs.row.put.Tie as tie
 
 abbrev Inv-loop : tie.InvT-loop
-Inv-loop word out₀ at i₀ out i = (i ≤ length word) × (length out ≡ length out₀) × (out ≡ paste out₀ at word i)
+Inv-loop bytes out₀ at i₀ out i = (i ≤ length bytes) × (length out ≡ length out₀) × (out ≡ paste out₀ at bytes i)
 
 abbrev μ-loop : tie.MeasureT-loop
-μ-loop word out₀ at i₀ out i = length word - i
+μ-loop bytes out₀ at i₀ out i = length bytes - i
 
 loop-holds : tie.Need-loop-holds Inv-loop μ-loop
-loop-holds c = (omega arith, refl, paste-zero (c .args .out .now) (c .args .at) (c .args .word .now))
+loop-holds c = (omega arith, refl, paste-zero (c .args .out .now) (c .args .at) (c .args .bytes .now))
 
 shared-slice-read-out : tie.Need-shared-slice-read-out Inv-loop μ-loop
 shared-slice-read-out c = omega arith
@@ -37,7 +37,7 @@ loop-again : tie.Need-loop-again Inv-loop μ-loop
 loop-again c =
     let s = c .before .before .before .args in
     let l = c .before .before .loop in
-    (omega arith, simp length-set (l .inv .1), rw (l .inv .2, add-one) (paste-suc (s .out .now) (s .at) (s .word .now) (l .i) 0 (omega arith) (omega arith)))
+    (omega arith, simp length-set (l .inv .1), rw (l .inv .2, add-one) (paste-suc (s .out .now) (s .at) (s .bytes .now) (l .i) 0 (omega arith) (omega arith)))
 
 add-result : tie.Need-add-result Inv-loop μ-loop
 add-result c = omega arith
@@ -49,10 +49,10 @@ returns : tie.Need-returns Inv-loop μ-loop
 returns c =
     let s = c .before .before .args in
     let l = c .before .loop in
-    rw (l .inv .2) (wrote-word (s .out .now) (s .at) (s .word .now) (l .i) (omega arith) (omega arith))
+    rw (l .inv .2) (wrote-copy (s .out .now) (s .at) (s .bytes .now) (l .i) (omega arith) (omega arith))
 
-pub put-word-spec : {M : Type 1} → statement M
-put-word-spec =
+pub put-spec : {M : Type 1} → statement M
+put-spec =
     tie.close
     (tie.spec
     Inv-loop
