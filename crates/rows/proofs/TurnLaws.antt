@@ -67,9 +67,6 @@ module _ (buf : List ℕ) (room : ℕ) (s : State) (got : ℕ) where
 
 -- ---- each way out of a turn
 
-pub turned-same : {s : State} {got : ℕ} {buf b out o : List ℕ} {q r : State} → q ≡ r → Turned s got buf b out o r → Turned s got buf b out o q
-turned-same e m = rw e m
-
 module _ (buf out : List ℕ) (s : State) (got : ℕ) where
   abbrev bytes : List ℕ
   bytes = heldWith s got buf

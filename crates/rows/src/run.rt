@@ -6,11 +6,10 @@ use crate::feed::last;
 use crate::feed::least;
 use crate::row::put;
 ghost use mathlib.Core.Path.{_≡_};
-ghost use mathlib.Core.Bool.{true, false};
 ghost use Prim.Native.Nat.{_+_, _≤_, min};
 ghost use lib.ListN.{length};
 ghost use Rattle.rows.specs.Program.{printed};
-ghost use Rattle.rows.specs.Run.{state, start, goesOn, Turned, poured, tally};
+ghost use Rattle.rows.specs.Run.{start, goesOn, Turned, poured, tally};
 ghost use Rattle.rows.specs.Given.{Ready, Brought, Pours, Buffers};
 
 // What a run goes by between two turns: the bytes of the buffer that have no row yet, from `from` up to `end`; the number of their first
@@ -38,20 +37,6 @@ pub fn begin() -> State
     }
 }
 
-// The end of a run.
-fn stop(number: u64, written: usize) -> State
-    ensures { λ r. ⌜ r ≡ state 0 0 number written false true ⌝ }
-{
-    State {
-        from: 0,
-        end: 0,
-        number: number,
-        written: written,
-        wants: false,
-        over: true,
-    }
-}
-
 // Whether there is room, and a number for each line.
 fn goes_on(size: usize, room: usize, number: u64) -> bool
     ensures { λ r. ⌜ r ≡ goesOn size room number ⌝ }
@@ -75,13 +60,27 @@ pub fn turn(buf: &mut [u8], got: usize, s: State, out: &mut [u8]) -> State
 {
     let number = s.number;
     if !goes_on(buf.len(), out.len(), number) {
-        return stop(number, 0);
+        return State {
+            from: 0,
+            end: 0,
+            number: number,
+            written: 0,
+            wants: false,
+            over: true,
+        };
     }
     let end = reach(s.end, got, buf.len());
     let from = least(s.from, end);
     if s.wants & (got == 0) {
         let row = last(&buf[from..end], number, out);
-        return stop(number, row);
+        return State {
+            from: 0,
+            end: 0,
+            number: number,
+            written: row,
+            wants: false,
+            over: true,
+        };
     }
     let fed = feed(&buf[from..end], number, out);
     let rows = fed.written;

@@ -7,7 +7,7 @@ use lib.ListN.{length, take, drop}
 use Rattle.refusal.proofs.PaperLaws.{fails, holds}
 use Rattle.rows.specs.Run.{goesOn, heldWith}
 use Rattle.rows.proofs.PartLaws.{part-is, held-is, part-few}
-use Rattle.rows.proofs.TurnLaws.{Enough, enough-is, turned-same, turned-stops, turned-ends, turned-goes, turned-waits}
+use Rattle.rows.proofs.TurnLaws.{Enough, enough-is, turned-stops, turned-ends, turned-goes, turned-waits}
 use borrow.Author.Needs.{needs}
 use Rattle.rows.proofs.run.turn.Statement.{statement}
 use Rattle.rows.proofs.run.turn.Tie as tie
@@ -15,14 +15,10 @@ use Rattle.rows.proofs.run.turn.Tie as tie
 goes-on-requires : tie.Need-goes-on-requires
 goes-on-requires c κs = search needs
 
-stop-requires : tie.Need-stop-requires
-stop-requires c κs = search needs
-
 returns : tie.Need-returns
 returns c =
-    let g = c .before .before in
-    let s = g .before .before .before .args in
-    turned-same (c .stop .ensures) (turned-stops (s .buf .now) (s .out .now) (s .s) (s .got) (fails (g .goes-on .ensures) (c .before .if1 .taken)))
+    let s = c .before .before .before .before .args in
+    turned-stops (s .buf .now) (s .out .now) (s .s) (s .got) (fails (c .before .goes-on .ensures) (c .if1 .taken))
 
 -- past the test there is room and a number
 on : (c : tie.Else1) → goesOn (length (c .before .before .before .before .args .buf .now)) (length (c .before .before .before .before .args .out .now)) (c .before .before .before .before .args .s .number) ≡ true
@@ -55,9 +51,6 @@ part-last-end c = search needs
 last-requires : tie.Need-last-requires
 last-requires c κs = enough (c .before .before .before .before .before .before .before) .row
 
-stop-requires-2 : tie.Need-stop-requires-2
-stop-requires-2 c κs = search needs
-
 same-length : tie.Need-same-length
 same-length c = search needs
 
@@ -66,11 +59,11 @@ same-length-2 c = search needs
 
 returns-2 : tie.Need-returns-2
 returns-2 c =
-    let f = c .before .before .before in
+    let f = c .before .before in
     let t = f .before .before .before .before in
     let l = t .before .before in
     let s = l .before .before .before .before .before .before .args in
-    turned-same (c .stop2 .ensures) (turned-ends (s .buf .now) (s .out .now) (s .s) (s .got) (on (l .before .before)) (t .if2 .taken) (rw (held l) at (f .last .ensures)))
+    turned-ends (s .buf .now) (s .out .now) (s .s) (s .got) (on (l .before .before)) (t .if2 .taken) (rw (held l) at (f .last .ensures))
 
 sub-feed : tie.Need-sub-feed
 sub-feed c = search needs
@@ -129,7 +122,6 @@ turn-spec =
     tie.close
     (tie.spec
     goes-on-requires
-    stop-requires
     returns
     reach-requires
     least-requires
@@ -137,7 +129,6 @@ turn-spec =
     part-last-start
     part-last-end
     last-requires
-    stop-requires-2
     same-length
     same-length-2
     returns-2
