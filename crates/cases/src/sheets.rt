@@ -5,16 +5,16 @@ use crate::read::small;
 use crate::room;
 use crate::write;
 use crate::write::OUT;
-use division::Apart;
 use division::Corners;
 use division::Edges;
 use division::Located;
 use division::Place;
 use division::Spot;
 use division::cover::cover as cover_in;
-use division::relations;
 use division::sheet;
 use division::table::Scale;
+use relations::Apart;
+use relations::kin;
 
 // Width and height in metres, first and last sheet; and the last scale and the last sheet of all.
 pub(crate) fn table(s: &[u8]) {
@@ -26,7 +26,7 @@ pub(crate) fn table(s: &[u8]) {
 
 pub(crate) fn number(s: &[u8]) {
     let n = small(s, 1);
-    write::block(told(OUT, n), relations::neighbours(n));
+    write::block(told(OUT, n), kin::neighbours(n));
 }
 
 // Of a sheet: place, edges and parent, and what is found at the place and at the upper left corner.
@@ -34,7 +34,7 @@ pub(crate) fn told(to: u64, n: u32) -> u64 {
     let t = located(to, sheet::locate(n));
     let scale = Scale::of(n);
     let u = corners(write::comma(t), scale.0, sheet::corners_of(n));
-    write::found(write::comma(u), relations::parent(n))
+    write::found(write::comma(u), kin::parent(n))
 }
 
 fn located(to: u64, l: Located) -> u64 {
@@ -81,19 +81,16 @@ pub(crate) fn on(s: &[u8]) {
 }
 
 pub(crate) fn down(s: &[u8]) {
-    write::found(OUT, relations::child(small(s, 1), small(s, 2), small(s, 3)));
+    write::found(OUT, kin::child(small(s, 1), small(s, 2), small(s, 3)));
 }
 
 pub(crate) fn step(s: &[u8]) {
-    write::found(
-        OUT,
-        relations::step(small(s, 1), signed(s, 2), signed(s, 3)),
-    );
+    write::found(OUT, kin::step(small(s, 1), signed(s, 2), signed(s, 3)));
 }
 
 // East and south.
 pub(crate) fn from(s: &[u8]) {
-    match relations::offset(small(s, 1), small(s, 2)) {
+    match kin::offset(small(s, 1), small(s, 2)) {
         Apart::By(o) => {
             write::signed(write::signed(OUT, o.east), o.south);
         }

@@ -1,10 +1,10 @@
 // Writing to standard output, or into a sum. Each function is told where to write and hands that on: 0 is standard
 // output, and any other number is a sum, in which every byte that was written and its place count.
 use division::Found;
-use division::Neighbour;
 use libc::STDOUT_FILENO;
 use refusal::Laid;
 use refusal::Refusal;
+use relations::Neighbour;
 use shelf::reading::Ended;
 use std::num::wrapping_add_u64;
 

@@ -4,7 +4,7 @@ use Rattle.division.specs.Words.{_≤?_, _=?_}
 use Rattle.division.specs.Table.{rows, columns, isScale, parentScale}
 use Rattle.division.specs.Grid.{area, owns}
 use Rattle.division.specs.Sheet.{isSheet, scaleOf, placeOf, onGrid, locate, sheetOn, sheetAt, cornersOf}
-use Rattle.division.specs.Relations.{isPart, parent, child, stays, walk, step, offset}
+use Rattle.relations.specs.Relations.{isPart, parent, child, stays, walk, step, offset}
 use Rattle.division.specs.Cover.{sheetsIn, cover, blockIn}
 use Rattle.label.specs.Label.{labelOf, writeLabel, labelLength}
 use Rattle.shelf.specs.Kind.{ofSheets}

@@ -8,7 +8,7 @@ use Rattle.refusal.specs.Paper.{answer, laid}
 use Rattle.refusal.proofs.PaperLaws.{passed-judge, laid-fits, laid-answered}
 use Rattle.division.specs.Table.{rows, columns, parentScale, parts, first, last}
 use Rattle.division.specs.Sheet.{scaleOf, placeOf, groundOf, indexOf, partIndex, spotOf, sheetOf, locate, sheetOn, cornersOf}
-use Rattle.division.specs.Relations.{parent, child}
+use Rattle.relations.specs.Relations.{parent, child}
 use Rattle.division.specs.Cover.{sheetsIn, coverable, cover}
 use Rattle.division.proofs.TestLaws.{in-between}
 use Rattle.division.proofs.TableLaws.{rules, scale}
@@ -16,7 +16,7 @@ use Rattle.division.proofs.NumberLaws.{on-grid, ranged}
 use Rattle.division.proofs.PointTheorems as point
 use Rattle.division.proofs.GroundTheorems.{as-wide, as-high}
 use Rattle.division.proofs.SheetTheorems as sheet
-use Rattle.division.proofs.RelationTheorems as relation
+use Rattle.relations.proofs.RelationTheorems as relation
 use Rattle.division.proofs.CoverLaws.{is-coverable}
 use Rattle.division.proofs.CoverTheorems as covering
 use Rattle.demands.specs.Sheets.{TableAddsUp, EachPointInOneSheet, EachSheetHasCorners, SheetIsLocated, ParentAndChild, StepAndOffset, NeighboursAreAround, Covers, CoverIsWhatShares}

@@ -10,7 +10,7 @@ use Rattle.division.specs.declared.Edges.{Edges}
 use Rattle.division.specs.declared.Place.{Place}
 use Rattle.division.specs.Words.{_=?_}
 use Rattle.division.specs.Sheet.{locate, sheetOn, sheetAt, cornersOf}
-use Rattle.division.specs.Relations.{parent, child, step, offset}
+use Rattle.relations.specs.Relations.{parent, child, step, offset}
 use Rattle.division.specs.Cover.{cover, blockIn}
 use Rattle.label.specs.Label.{readLabel, writeLabel, labelLength}
 use Rattle.catalogue.specs.Line.{readLine}

@@ -9,9 +9,7 @@ use Rattle.division.specs.declared.Corners.{Corners}
 use Rattle.division.specs.declared.Corners.the-variants as corners
 use Rattle.division.specs.declared.cover.Windowed.{Windowed}
 use Rattle.division.specs.declared.cover.Windowed.the-variants as windowed
-use Rattle.division.specs.declared.Apart.{Apart}
-use Rattle.division.specs.declared.Apart.the-variants as apart
-use Rattle.division.specs.Answers.{sheetPaper, spotPaper, cornersPaper, blockPaper, offsetPaper}
+use Rattle.division.specs.Answers.{sheetPaper, spotPaper, cornersPaper, blockPaper}
 
 pub sheet-told : Told sheetPaper
 sheet-told = record { back = read found.Sheet found.Refused; again = again }
@@ -40,10 +38,3 @@ block-told = record { back = read windowed.Meets windowed.Refused; again = again
     again : (a : Windowed) → read windowed.Meets windowed.Refused (blockPaper a) ≡ a
     again (windowed.Meets b) = refl
     again (windowed.Refused why) = read-refusal windowed.Meets windowed.Refused why
-
-pub offset-told : Told offsetPaper
-offset-told = record { back = read apart.By apart.Refused; again = again }
-  where
-    again : (a : Apart) → read apart.By apart.Refused (offsetPaper a) ≡ a
-    again (apart.By o) = refl
-    again (apart.Refused why) = read-refusal apart.By apart.Refused why

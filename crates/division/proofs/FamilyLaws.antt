@@ -1,21 +1,16 @@
 -- A scale and its parent's: a place lies in its parent's place, an index in its parent's index. Assumes nothing.
 use mathlib.Core.Path.{_≡_, refl, sym, ap, _∙_, subst}
-use mathlib.Core.Bool.{true}
 use Prim.Native.Nat.{ℕ, zero, suc, _+_, _-_, _*_, _/_, _%_, _≤_, _<_}
 use native.Mathlib.Nat.{mod-lt, mul-pos, mul-add, mul-comm, mul-assoc, mul-le-mul, mul-le-mul-right, le-mul-of-pos-right, le-trans}
 use native.Mathlib.Omega.{arith}
-use borrow.Author.Tests.{leb-true, eqb-true}
 use Rattle.division.specs.declared.Place.{Place}
 use Rattle.division.specs.declared.table.Row.{Row}
-use Rattle.division.specs.Words.{_≤?_, _=?_, between}
-use Rattle.division.specs.Table.{Made, ofArea, ofScale, rowsOf, columnsOf, made, rows, columns, parentScale, side, parts, sheets, first, codeRow}
-use Rattle.division.specs.Sheet.{isSheet, scaleOf, indexOf, numberIn, parentPlace, childPlace, areaIndex, areaPlace, partIndex, indexAt, placeAt}
-use Rattle.division.specs.Relations.{isPart}
-use Rattle.division.specs.Given.{IsScale, OnGrid, Indexed, AreaPlace, Parted, Part, PartPlace}
-use Rattle.division.proofs.TestLaws.{both}
+use Rattle.division.specs.Table.{Made, ofArea, ofScale, rowsOf, columnsOf, made, rows, columns, parentScale, side, parts, sheets, codeRow}
+use Rattle.division.specs.Sheet.{numberIn, parentPlace, childPlace, areaIndex, areaPlace, partIndex, indexAt, placeAt}
+use Rattle.division.specs.Given.{IsScale, OnGrid, Indexed, AreaPlace, Parted, PartPlace}
 use Rattle.division.proofs.MadeLaws.{Sound, On, quot, number-few, sheets-parts, on-parent, on-place, left-one, left-few}
 use Rattle.division.proofs.TableLaws.{grown, rules}
-use Rattle.division.proofs.NumberLaws.{index-few, ranged, indexed}
+use Rattle.division.proofs.NumberLaws.{index-few}
 
 grown-deep : (s p : ℕ) → (p ≡ 0 → ⊥) → grown s p ≡ ofScale p (made p) (side s)
 grown-deep s zero e = absurd (e refl)
@@ -70,12 +65,6 @@ module _ {s : ℕ} (h : IsScale s) (e : parentScale s ≡ 0 → ⊥) where
   columns-family : columns s ≡ columns (parentScale s) * side s
   unfolding columnsOf
   columns-family = ap columnsOf deep
-
-  -- part `number` of a parent at index `up`
-  pub part : (up number : ℕ) → up < sheets (parentScale s) → 1 ≤ number → number ≤ parts s → Part (parts s) up number
-  part up number l one last =
-      let m : (up + 1) * parts s ≤ sheets (parentScale s) * parts s = mul-le-mul-right (parts s) (omega arith) in
-      record { one = one; last = last; few = omega (arith, sheets-family, rules h .few) }
 
   module _ (p : Place) (o : OnGrid s p) where
     pub parent-on : OnGrid (parentScale s) (parentPlace (side s) p)
@@ -191,51 +180,6 @@ module _ {s : ℕ} {p : Place} {t : Row} {at : Place} {index each : ℕ} (c : Cl
         all = rw (c .row) (sheets-by (c .on .scale) deep-parent (sheets s) each (c .all));
         whole = rw (b, number-is, c .row) parts-whole;
       }
-
--- ---- a sheet, its parent and its children
-
--- a sheet whose scale has a parent
-module _ (n : ℕ) (h : isSheet n ≡ true) (e : parentScale (scaleOf n) ≡ 0 → ⊥) where
-  pub parent-in : indexOf n / parts (scaleOf n) < sheets (parentScale (scaleOf n))
-  parent-in = parent-indexed (ranged n h .scale) e (indexOf n) (indexed n h) .in-sheets
-
-  pub parent-low : first (parentScale (scaleOf n)) + indexOf n / parts (scaleOf n) < 7_953_174
-  parent-low = omega (arith, parent-in, rules (above (ranged n h .scale) e) .low)
-
--- a part of a sheet at a scale
-pub record Child (s n number : ℕ) : Type 0 where
-  pub scale : IsScale s
-  pub sheet : isSheet n ≡ true
-  pub from : parentScale s ≡ scaleOf n
-  pub one : 1 ≤ number
-  pub last : number ≤ parts s
-
-pub child-of : (s n number : ℕ) → IsScale s → isSheet n ≡ true → isPart s (scaleOf n) number ≡ true → Child s n number
-child-of s n number h z e =
-    let b = both (parentScale s =? scaleOf n) (between 1 (parts s) number) e in
-    let d = both (1 ≤? number) (number ≤? parts s) (b .1) in
-    record {
-      scale = h;
-      sheet = z;
-      from = eqb-true (parentScale s) (scaleOf n) (b .0);
-      one = leb-true 1 number (d .0);
-      last = leb-true number (parts s) (d .1);
-    }
-
-module _ {s n number : ℕ} (c : Child s n number) where
-  pub child-deep : parentScale s ≡ 0 → ⊥
-  child-deep e = omega (arith, c .from, ranged n (c .sheet) .scale .one)
-
-  child-in : indexOf n < sheets (parentScale s)
-  child-in = rw (c .from) (indexed n (c .sheet) .in-sheets)
-
-  pub child-part : Part (parts s) (indexOf n) number
-  child-part = part (c .scale) child-deep (indexOf n) number child-in (c .one) (c .last)
-
-  pub child-few : partIndex (parts s) (indexOf n) number < sheets s
-  child-few =
-      let m : (indexOf n + 1) * parts s ≤ sheets (parentScale s) * parts s = mul-le-mul-right (parts s) (omega (arith, child-in)) in
-      omega (arith, sheets-family (c .scale) child-deep, c .one, c .last)
 
 -- ---- sums of a part stay small
 

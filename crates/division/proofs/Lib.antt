@@ -6,14 +6,12 @@ pub mod NumberLaws
 pub mod FamilyLaws
 pub mod GridLaws
 pub mod PointLaws
-pub mod RelationLaws
 pub mod SpanLaws
 pub mod WindowLaws
 pub mod BlockLaws
 pub mod CoverLaws
 pub mod PointTheorems
 pub mod GroundTheorems
-pub mod RelationTheorems
 pub mod MeetLaws
 pub mod MemberLaws
 pub mod CoverTheorems

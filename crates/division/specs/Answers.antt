@@ -3,7 +3,6 @@ use Prim.Native.Nat.{ℕ}
 use Rattle.refusal.specs.Paper.{Paper, answer}
 use Rattle.refusal.specs.Numbers.{onPaper}
 use Rattle.division.specs.declared.Edges.{Edges}
-use Rattle.division.specs.declared.Offset.{Offset}
 use Rattle.division.specs.declared.Spot.{Spot}
 use Rattle.division.specs.declared.Found.{Found}
 use Rattle.division.specs.declared.Found.the-variants as found
@@ -14,8 +13,6 @@ use Rattle.division.specs.declared.Corners.the-variants as corners
 use Rattle.division.specs.declared.cover.Block.{Block}
 use Rattle.division.specs.declared.cover.Windowed.{Windowed}
 use Rattle.division.specs.declared.cover.Windowed.the-variants as windowed
-use Rattle.division.specs.declared.Apart.{Apart}
-use Rattle.division.specs.declared.Apart.the-variants as apart
 
 abbrev pub sheetPaper : Found → Paper ℕ
 sheetPaper (found.Sheet n) = answer n
@@ -32,7 +29,3 @@ cornersPaper (corners.Refused why) = onPaper why
 abbrev pub blockPaper : Windowed → Paper Block
 blockPaper (windowed.Meets b) = answer b
 blockPaper (windowed.Refused why) = onPaper why
-
-abbrev pub offsetPaper : Apart → Paper Offset
-offsetPaper (apart.By o) = answer o
-offsetPaper (apart.Refused why) = onPaper why

@@ -5,7 +5,6 @@ use mathlib.Core.Bool.{true}
 use lib.IntN.{ℤ, pos}
 use Rattle.division.specs.declared.Edges.{Edges}
 use Rattle.division.specs.declared.Place.{Place}
-use Rattle.division.specs.declared.Spot.{Spot}
 use Rattle.division.specs.declared.cover.Span.{Span}
 use Rattle.division.specs.Words.{_≤ᶻ_, _<ᶻ_}
 use Rattle.division.specs.Table.{rows, columns, sheets}
@@ -22,9 +21,6 @@ pub record OnGrid (s : ℕ) (p : Place) : Type 0 where
   pub scale : IsScale s
   pub in-rows : p .row < rows s
   pub in-columns : p .column < columns s
-
-pub record Standing (at : Spot) : Type 0 where
-  pub on : OnGrid (at .scale) (at .place)
 
 -- a column's edge and a row's edge on it, or the one past the last
 pub record ColumnEdge (s column : ℕ) : Type 0 where
@@ -48,12 +44,6 @@ pub record AreaPlace (c : ℕ) (p : Place) : Type 0 where
 pub record Parted (k : ℕ) : Type 0 where
   pub some : 0 < k
   pub few : k ≤ 25
-
--- part number `number` of a parent at index `up`
-pub record Part (parts up number : ℕ) : Type 0 where
-  pub one : 1 ≤ number
-  pub last : number ≤ parts
-  pub few : (up + 1) * parts ≤ 6_000_000
 
 -- part number `number` of a parent at a place
 pub record PartPlace (k : ℕ) (up : Place) (number : ℕ) : Type 0 where

@@ -2,7 +2,6 @@ pub mod Words
 pub mod Table
 pub mod Grid
 pub mod Sheet
-pub mod Relations
 pub mod Cover
 pub mod Answers
 pub mod Given

@@ -1,4 +1,4 @@
-// The division of the area of HTRS96/TM into map sheets of nine scales (document 01, "The grid" and "Relations").
+// The division of the area of HTRS96/TM into map sheets of nine scales (document 01, "The grid", and of "Relations" the cover of a window).
 //
 // A sheet is named by its sheet number, 0 to 7 953 173: the first number of its scale plus its index there.
 //   scale         1     2    3    4      5       6       7        8          9
@@ -12,7 +12,6 @@ use refusal::Refusal;
 
 pub mod cover;
 pub mod grid;
-pub mod relations;
 pub mod sheet;
 pub mod table;
 
@@ -36,12 +35,6 @@ pub struct Edges {
     pub north: i64,
 }
 
-// Columns east and rows south.
-pub struct Offset {
-    pub east: i64,
-    pub south: i64,
-}
-
 pub enum Found {
     Sheet(u32),
     Refused(Refusal),
@@ -55,14 +48,4 @@ pub enum Located {
 pub enum Corners {
     Framed(Edges),
     Refused(Refusal),
-}
-
-pub enum Apart {
-    By(Offset),
-    Refused(Refusal),
-}
-
-pub enum Neighbour {
-    Sheet(u32),
-    None,
 }

@@ -15,9 +15,9 @@ ghost use mathlib.Core.Path.{_≡_};
 ghost use mathlib.Core.Bool.{true};
 ghost use Prim.Native.Nat.{_<_};
 ghost use Rattle.division.specs.Table.{made};
-ghost use Rattle.division.specs.Sheet.{isSheet, areaIndex, areaPlace, partIndex, numberIn, parentPlace, childPlace, indexAt, placeAt, sheetOf, scaleOf, spotOf, onGrid, locate, sheetOn, sheetAt, cornersOf};
+ghost use Rattle.division.specs.Sheet.{isSheet, areaIndex, areaPlace, numberIn, parentPlace, childPlace, indexAt, placeAt, sheetOf, scaleOf, spotOf, onGrid, locate, sheetOn, sheetAt, cornersOf};
 ghost use Rattle.division.specs.Answers.{sheetPaper, spotPaper, cornersPaper};
-ghost use Rattle.division.specs.Given.{OnGrid, Indexed, Parted, Part, PartPlace, AreaPlace};
+ghost use Rattle.division.specs.Given.{OnGrid, Indexed, Parted, PartPlace, AreaPlace};
 
 pub fn is_sheet(n: u32) -> bool
     ensures { λ r. ⌜ r ≡ isSheet n ⌝ }
@@ -43,7 +43,7 @@ fn area_place(columns: u32, i: u32) -> Place
     }
 }
 
-// A part of a parent in k x k: its number there, its parent's place, its place; and by the parts per parent its index.
+// A part of a parent in k x k: its number there, its parent's place, its place.
 fn number_in(k: u32, p: Place) -> u32
     requires { ⌜ Parted k ⌝ }
     ensures { λ r. ⌜ r ≡ numberIn k p ⌝ }
@@ -72,13 +72,6 @@ fn child_place(k: u32, up: Place, number: u32) -> Place
         row: up.row * k + down,
         column: up.column * k + across,
     }
-}
-
-pub(crate) fn part_index(parts: u32, up: u32, number: u32) -> u32
-    requires { ⌜ Part parts up number ⌝ }
-    ensures { λ r. ⌜ r ≡ partIndex parts up number ⌝ }
-{
-    up * parts + (number - 1)
 }
 
 // The index of a place of a scale, by way of its parents, and back. `index` is what the parts so far make, and `each` how many sheets of

@@ -7,8 +7,8 @@ use borrow.Author.Tests.{le-leb, lt-leb}
 use lib.ListN.{length, getD, set}
 use lib.Seq.{sets, sets-eq}
 use Rattle.refusal.specs.Paper.{answer, refused, roomAfter}
-use Rattle.division.specs.declared.Neighbour.{Neighbour}
-use Rattle.division.specs.Relations.{neighbours}
+use Rattle.relations.specs.declared.Neighbour.{Neighbour}
+use Rattle.relations.specs.Relations.{neighbours}
 use Rattle.qubathimi_c.specs.Plain.{mark, marks, neighboursIn}
 
 -- three places, one behind the other

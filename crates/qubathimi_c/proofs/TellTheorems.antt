@@ -10,7 +10,7 @@ use Rattle.refusal.specs.Paper.{Paper, answer, refused}
 use Rattle.refusal.specs.Numbers.{onPaper, laidPaper}
 use Rattle.division.specs.declared.Found.{Found}
 use Rattle.division.specs.declared.Found.the-variants as found
-use Rattle.division.specs.declared.Neighbour.the-variants.{None}
+use Rattle.relations.specs.declared.Neighbour.the-variants.{None}
 use Rattle.division.specs.Words.{_=?_}
 use Rattle.division.specs.Sheet.{isSheet}
 use Rattle.division.specs.Answers.{sheetPaper}

@@ -6,9 +6,9 @@ use lib.ListN.{length, getD}
 use Rattle.refusal.specs.Paper.{Paper, answer, _>>_, laid}
 use Rattle.division.specs.declared.Place.{Place}
 use Rattle.division.specs.declared.Edges.{Edges}
-use Rattle.division.specs.declared.Neighbour.{Neighbour}
-use Rattle.division.specs.declared.Neighbour.the-variants.{Sheet, None}
-use Rattle.division.specs.Relations.{neighbours}
+use Rattle.relations.specs.declared.Neighbour.{Neighbour}
+use Rattle.relations.specs.declared.Neighbour.the-variants.{Sheet, None}
+use Rattle.relations.specs.Relations.{neighbours}
 use Rattle.catalogue.specs.Parts.{Part, Caption, ofLine, ofFallback}
 use Rattle.shelf.specs.Reading.{Reading}
 

@@ -1,0 +1,3 @@
+pub mod RelationLaws
+pub mod RelationTheorems
+pub mod AnswerLaws
