@@ -6,6 +6,7 @@ pub mod SpellLaws
 pub mod LabelTheorems
 pub mod SizeLaws
 pub mod LengthLaws
+pub mod WroteLaws
 pub mod WritingLaws
 pub mod ByteLaws
 pub mod WritingTheorems

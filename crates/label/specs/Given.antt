@@ -4,7 +4,7 @@ use Prim.Native.Char.{code}
 use mathlib.Core.Path.{_≡_}
 use mathlib.Core.Bool.{cond, _&&_}
 use mathlib.Core.List.{List, [], _∷_, _++_, map, flatMap}
-use lib.ListN.{length, take}
+use lib.ListN.{length, take, drop}
 use Rattle.refusal.specs.Paper.{Paper, answer}
 use Rattle.refusal.specs.Numbers.{onPaper}
 use Rattle.division.specs.Words.{between}
@@ -16,7 +16,6 @@ use Rattle.label.specs.declared.reading.Named.the-variants as named
 use Rattle.label.specs.declared.reading.Named.the-variants.{Scale}
 use Rattle.label.specs.declared.reading.Reckoned.{Reckoned}
 use Rattle.label.specs.declared.reading.Reckoned.the-variants.{At, Out}
-use Rattle.label.specs.declared.writing.Text.{Text}
 use Rattle.label.specs.Text.{decimal}
 use Rattle.label.specs.Label.{wellFormed, numbersIn, inRange, placeFrom, countOf, fieldsOf}
 
@@ -61,26 +60,16 @@ pub record Below (index each : ℕ) (above : Reckoned) : Type 0 where
 
 -- ---- writing
 
--- a text in so many places from the front, the bytes that it holds, and a text with more bytes behind it
-abbrev pub text : List ℕ → ℕ → Text
-text bytes len = record { bytes = bytes; len = len }
+-- d became e: the bytes stand from a place on, r is the place behind them, within the room, and all else is as it was
+pub record Wrote (d : List ℕ) (at : ℕ) (e : List ℕ) (r : ℕ) (bytes : List ℕ) : Type 0 where
+  pub same : e ≡ take at d ++ (bytes ++ drop (at + length bytes) d)
+  pub end : r ≡ at + length bytes
+  pub fits : r ≤ length d
 
-abbrev pub bytesOf : Text → List ℕ
-bytesOf t = take (t .len) (t .bytes)
-
-pub record Appended (t r : Text) (more : List ℕ) : Type 0 where
-  pub longer : r .len ≡ t .len + length more
-  pub bytes : bytesOf r ≡ bytesOf t ++ more
-
--- a text is those bytes
-pub record Spelt (t : Text) (bytes : List ℕ) : Type 0 where
-  pub long : t .len ≡ length bytes
-  pub same : bytesOf t ≡ bytes
-
--- room for more bytes, in which stands a number of at most three digits
-pub record Digits (t : Text) (more : List ℕ) (v : ℕ) : Type 0 where
-  pub room : t .len + length more ≤ length (t .bytes)
-  pub few : v < 1_000
+-- a number below so many, and room for so many bytes
+pub record Small (most v size at room : ℕ) : Type 0 where
+  pub few : v < most
+  pub fits : at + size ≤ room
 
 -- fields, each behind a hyphen
 abbrev pub behind : List ℕ → List ℕ
@@ -90,16 +79,16 @@ behind fs = flatMap (λ other. code "-" ∷ other) (map decimal fs)
 abbrev pub areaFields : ℕ → ℕ → List ℕ
 areaFields c i = (101 + i / c) ∷ (1 + i % c) ∷ []
 
-pub record AreaRoom (t : Text) (c i : ℕ) : Type 0 where
+pub record AreaRoom (c i at room : ℕ) : Type 0 where
   pub some : 0 < c
   pub few-row : 101 + i / c < 1_000
   pub few-column : 1 + i % c < 1_000
-  pub room : t .len + length (behind (areaFields c i)) ≤ length (t .bytes)
+  pub fits : at + length (behind (areaFields c i)) ≤ room
 
 -- the fields of an index of a scale, and room for them
 abbrev pub indexFields : ℕ → ℕ → List ℕ
 indexFields s i = fieldsOf (made s) (placeAt (made s) i)
 
-pub record Room (t : Text) (s i : ℕ) : Type 0 where
+pub record Room (s i at room : ℕ) : Type 0 where
   pub indexed : Indexed s i
-  pub room : t .len + length (behind (indexFields s i)) ≤ length (t .bytes)
+  pub fits : at + length (behind (indexFields s i)) ≤ room

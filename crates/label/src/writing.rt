@@ -6,14 +6,14 @@ use refusal::Refusal;
 ghost use mathlib.Core.Path.{_≡_};
 ghost use mathlib.Core.Bool.{true};
 ghost use mathlib.Core.List.{[], _∷_};
-ghost use Prim.Native.Nat.{_<_, _≤_};
-ghost use lib.ListN.{length};
+ghost use Prim.Native.Nat.{_+_, _<_, _≤_};
+ghost use lib.ListN.{length, take, replicate};
 ghost use Rattle.refusal.specs.Paper.{laid, counted, roomAfter};
 ghost use Rattle.refusal.specs.Numbers.{laidPaper};
 ghost use Rattle.division.specs.Sheet.{isSheet};
 ghost use Rattle.label.specs.Text.{decimal};
 ghost use Rattle.label.specs.Label.{markOf, labelOf, writeLabel, labelLength};
-ghost use Rattle.label.specs.Given.{text, bytesOf, Appended, Spelt, Digits, behind, areaFields, AreaRoom, indexFields, Room};
+ghost use Rattle.label.specs.Given.{Wrote, Small, behind, areaFields, AreaRoom, indexFields, Room};
 
 // A label: the longest has 16 bytes.
 pub struct Text {
@@ -21,10 +21,10 @@ pub struct Text {
     pub len: usize,
 }
 
-// Each of the functions that put something into the bytes of a text gives the place behind it.
+// Each of the functions that put something into room gives the place behind it.
 fn put_byte(b: u8, out: &mut [u8], at: usize) -> usize
     requires { ⌜ at < length (now out) ⌝ }
-    ensures { λ r. ⌜ Appended (text (now (out .entry)) at) (text (now (out .exit)) r) (b ∷ []) ⌝ }
+    ensures { λ r. ⌜ Wrote (now (out .entry)) at (now (out .exit)) r (b ∷ []) ⌝ }
 {
     out[at] = b;
     at + 1
@@ -32,8 +32,8 @@ fn put_byte(b: u8, out: &mut [u8], at: usize) -> usize
 
 // A number of at most three digits. All three are put, and a zero in front is put over by the digit behind it.
 fn put_number(v: u32, out: &mut [u8], at: usize) -> usize
-    requires { ⌜ Digits (text (now out) at) (decimal v) v ⌝ }
-    ensures { λ r. ⌜ Appended (text (now (out .entry)) at) (text (now (out .exit)) r) (decimal v) ⌝ }
+    requires { ⌜ Small 1_000 v (length (decimal v)) at (length (now out)) ⌝ }
+    ensures { λ r. ⌜ Wrote (now (out .entry)) at (now (out .exit)) r (decimal v) ⌝ }
 {
     let hundreds = 48 + (v / 100) as u8;
     let tens = 48 + (v / 10 % 10) as u8;
@@ -48,8 +48,8 @@ fn put_number(v: u32, out: &mut [u8], at: usize) -> usize
 
 // A field behind a hyphen.
 fn put_field(v: u32, out: &mut [u8], at: usize) -> usize
-    requires { ⌜ Digits (text (now out) at) (45 ∷ decimal v) v ⌝ }
-    ensures { λ r. ⌜ Appended (text (now (out .entry)) at) (text (now (out .exit)) r) (45 ∷ decimal v) ⌝ }
+    requires { ⌜ Small 1_000 v (1 + length (decimal v)) at (length (now out)) ⌝ }
+    ensures { λ r. ⌜ Wrote (now (out .entry)) at (now (out .exit)) r (45 ∷ decimal v) ⌝ }
 {
     let a = put_byte(b'-', out, at);
     put_number(v, out, a)
@@ -57,8 +57,8 @@ fn put_field(v: u32, out: &mut [u8], at: usize) -> usize
 
 // Row and column of an index of the area in columns.
 fn put_area(columns: u32, i: u32, out: &mut [u8], at: usize) -> usize
-    requires { ⌜ AreaRoom (text (now out) at) columns i ⌝ }
-    ensures { λ r. ⌜ Appended (text (now (out .entry)) at) (text (now (out .exit)) r) (behind (areaFields columns i)) ⌝ }
+    requires { ⌜ AreaRoom columns i at (length (now out)) ⌝ }
+    ensures { λ r. ⌜ Wrote (now (out .entry)) at (now (out .exit)) r (behind (areaFields columns i)) ⌝ }
 {
     let row = 101 + i / columns;
     let column = 1 + i % columns;
@@ -68,8 +68,8 @@ fn put_area(columns: u32, i: u32, out: &mut [u8], at: usize) -> usize
 
 // The fields of a sheet behind the first number, by its index in its scale and by way of its parents.
 fn put_fields(s: u32, i: u32, out: &mut [u8], at: usize) -> usize
-    requires { ⌜ Room (text (now out) at) s i ⌝ }
-    ensures { λ r. ⌜ Appended (text (now (out .entry)) at) (text (now (out .exit)) r) (behind (indexFields s i)) ⌝ }
+    requires { ⌜ Room s i at (length (now out)) ⌝ }
+    ensures { λ r. ⌜ Wrote (now (out .entry)) at (now (out .exit)) r (behind (indexFields s i)) ⌝ }
 {
     let mut t = Scale(s).row();
     let mut index = i;
@@ -104,7 +104,7 @@ fn mark_of(s: u32) -> u32
 // The label of a sheet.
 fn text_of(sheet: u32) -> Text
     requires { ⌜ isSheet sheet ≡ true ⌝ }
-    ensures { λ r. ⌜ Spelt r (labelOf sheet) ⌝ }
+    ensures { λ r. ⌜ Wrote (replicate 16 0) 0 (r .bytes) (r .len) (labelOf sheet) ⌝ }
 {
     let s = Scale::of(sheet).0;
     let first = Scale(s).first();
@@ -131,8 +131,8 @@ pub fn label_length(sheet: u32) -> Laid
 // Lays a text into lent room, where it fits.
 fn put(t: Text, room: &mut [u8]) -> Laid
     requires { ⌜ t .len ≤ 16 ⌝ }
-    ensures { λ r. ⌜ laidPaper r ≡ counted (laid (bytesOf t) (length (now (room .entry)))) ⌝ }
-    ensures { λ r. ⌜ now (room .exit) ≡ roomAfter (laid (bytesOf t) (length (now (room .entry)))) (now (room .entry)) ⌝ }
+    ensures { λ r. ⌜ laidPaper r ≡ counted (laid (take (t .len) (t .bytes)) (length (now (room .entry)))) ⌝ }
+    ensures { λ r. ⌜ now (room .exit) ≡ roomAfter (laid (take (t .len) (t .bytes)) (length (now (room .entry)))) (now (room .entry)) ⌝ }
 {
     let bytes = t.bytes;
     let len = t.len;

@@ -12,8 +12,9 @@ use lib.Seq.{take-at, drop-append-add, drop-drop, length-take-le, take-all}
 use Rattle.label.specs.Text.{split}
 use Rattle.label.proofs.SplitLaws.{Free, split-piece, split-last}
 use Rattle.rows.specs.Program.{endedLines, unended, lineOf, linesOf, outputLine, outputFrom}
-use Rattle.rows.specs.Given.{Wrote, firstLine, linesDone, takenBy, doneIn, IsFed}
-use Rattle.rows.proofs.WriteLaws.{then, same-long, wrote-none}
+use Rattle.label.specs.Given.{Wrote}
+use Rattle.rows.specs.Given.{firstLine, linesDone, takenBy, doneIn, IsFed}
+use Rattle.label.proofs.WroteLaws.{then, same-long, wrote-none}
 
 -- ---- bytes with a line feed in them, or none
 

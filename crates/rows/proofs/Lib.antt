@@ -1,4 +1,4 @@
-pub mod WriteLaws
+pub mod PairLaws
 pub mod WordLaws
 pub mod FeedLaws
 pub mod RowTheorems

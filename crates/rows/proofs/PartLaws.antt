@@ -7,8 +7,8 @@ use native.Mathlib.Omega.{arith}
 use lib.ListN.{length, take, drop, length-take, length-drop, drop-of-length-le}
 use lib.Seq.{slice, take-all, take-take, take-at, drop-length, take-nil, length-take-le}
 use Rattle.division.proofs.TestLaws.{le-or-less}
-use Rattle.rows.specs.Given.{Wrote}
-use Rattle.rows.proofs.WriteLaws.{wrote-front}
+use Rattle.label.specs.Given.{Wrote}
+use Rattle.label.proofs.WroteLaws.{wrote-front}
 
 -- as the code lends it
 pub part-is : (l : List ℕ) (a e : ℕ) → take (e - a) (drop a l) ≡ slice a e l

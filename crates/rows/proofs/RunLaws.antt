@@ -15,9 +15,10 @@ use Rattle.label.proofs.SplitLaws.{Free}
 use Rattle.rows.specs.declared.run.State.{State}
 use Rattle.rows.specs.declared.run.Took.{Took}
 use Rattle.rows.specs.Program.{lineOf, linesOf, outputFrom, printed}
-use Rattle.rows.specs.Given.{Wrote, Buffers, Ready, Brought, Pours}
+use Rattle.label.specs.Given.{Wrote}
+use Rattle.rows.specs.Given.{Buffers, Ready, Brought, Pours}
 use Rattle.rows.specs.Run.{Turn, start, goesOn, heldWith, stopped, turnOf, Turned, poured, tally}
-use Rattle.rows.proofs.WriteLaws.{same-long, wrote-none}
+use Rattle.label.proofs.WroteLaws.{same-long, wrote-none}
 use Rattle.rows.proofs.RowTheorems.{last-counts}
 use Rattle.rows.proofs.SinkLaws.{Sunk, sunk-none, sunk-more}
 use Rattle.rows.proofs.TurnLaws.{heldBy, after, Calm, unasked, Onward, turn-ends, turn-on, turn-written}

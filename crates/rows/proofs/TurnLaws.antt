@@ -15,9 +15,10 @@ use Rattle.label.proofs.SplitLaws.{Free}
 use Rattle.rows.specs.declared.run.State.{State}
 use Rattle.rows.specs.Program.{lineOf, linesOf, outputFrom}
 use Rattle.rows.specs.declared.feed.Fed.{Fed}
-use Rattle.rows.specs.Given.{Wrote, takenBy, doneIn, rowsDone, leftIn, IsFed}
+use Rattle.label.specs.Given.{Wrote}
+use Rattle.rows.specs.Given.{takenBy, doneIn, rowsDone, leftIn, IsFed}
 use Rattle.rows.specs.Run.{Turn, state, goesOn, heldWith, stopped, midTurn, turnOf, Turned}
-use Rattle.rows.proofs.WriteLaws.{wrote-front, wrote-end}
+use Rattle.label.proofs.WroteLaws.{wrote-front, wrote-end}
 use Rattle.rows.proofs.PartLaws.{held-is}
 use Rattle.rows.proofs.RowTheorems.{fed-front, block-by-block, all-fed, free-take, keeps-enough}
 

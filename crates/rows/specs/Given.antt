@@ -3,7 +3,7 @@ use Prim.Native.Nat.{ℕ, _+_, _-_, _/_, _%_, _≤_, _<_, _^_}
 use Prim.Native.Char.{code}
 use mathlib.Core.Path.{_≡_}
 use mathlib.Core.Bool.{true, false, cond, _&&_}
-use mathlib.Core.List.{List, [], _∷_, _++_, flatMap}
+use mathlib.Core.List.{List, [], _∷_, flatMap}
 use lib.IntN.{ℤ, pos, natAbs}
 use lib.ListN.{length, getD, take, drop}
 use Rattle.refusal.specs.Paper.{answer}
@@ -13,18 +13,13 @@ use Rattle.division.specs.Words.{_≤?_, _≤ᶻ_}
 use Rattle.division.specs.Sheet.{isSheet}
 use Rattle.division.specs.Answers.{sheetPaper}
 use Rattle.label.specs.Text.{split}
+use Rattle.label.specs.Given.{Wrote}
 use Rattle.rows.specs.declared.feed.Fed.{Fed}
 use Rattle.rows.specs.declared.run.State.{State}
 use Rattle.rows.specs.declared.run.Took.{Took}
 use Rattle.rows.specs.Program.{endedLines, outputLine, outputFrom}
 
--- ---- text in room
-
--- d became e: the bytes stand from a place on, r is the place behind them, within the room, and all else is as it was
-pub record Wrote (d : List ℕ) (at : ℕ) (e : List ℕ) (r : ℕ) (bytes : List ℕ) : Type 0 where
-  pub same : e ≡ take at d ++ (bytes ++ drop (at + length bytes) d)
-  pub end : r ≡ at + length bytes
-  pub fits : r ≤ length d
+-- ---- a row
 
 -- words, each behind a space
 abbrev pub spaced : List (List ℕ) → List ℕ
@@ -33,11 +28,6 @@ spaced ws = flatMap (λ other. code " " ∷ other) ws
 -- two digits
 abbrev pub pair : ℕ → List ℕ
 pair v = (48 + v / 10) ∷ (48 + v % 10) ∷ []
-
--- a number below so many, and room for so many bytes
-pub record Small (most v size at room : ℕ) : Type 0 where
-  pub few : v < most
-  pub fits : at + size ≤ room
 
 -- an edge that is not negative and has at most seven digits in metres
 pub record Short (x : ℤ) : Type 0 where

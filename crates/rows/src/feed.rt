@@ -7,7 +7,8 @@ ghost use Prim.Native.Nat.{_+_, _≤_, _<_, _^_, min};
 ghost use lib.ListN.{length, take};
 ghost use lib.Seq.{slice};
 ghost use Rattle.rows.specs.Program.{lineOf, outputFrom};
-ghost use Rattle.rows.specs.Given.{Wrote, IsFed, firstLine};
+ghost use Rattle.label.specs.Given.{Wrote};
+ghost use Rattle.rows.specs.Given.{IsFed, firstLine};
 
 // What was made of a block: the bytes of it that were used, the bytes written, and the number of the next line.
 pub struct Fed {

@@ -9,12 +9,13 @@ ghost use mathlib.Core.List.{[], _∷_, _++_};
 ghost use Prim.Native.Nat.{_+_, _/_, _%_, _≤_, _<_};
 ghost use lib.ListN.{length};
 ghost use Rattle.label.specs.Text.{decimal};
+ghost use Rattle.label.specs.Given.{Wrote, Small};
 ghost use Rattle.division.specs.Answers.{sheetPaper};
 ghost use Rattle.refusal.specs.Numbers.{onPaper};
 ghost use Rattle.rows.specs.Program.{metres, frameWords, words, outputLine};
-ghost use Rattle.rows.specs.Given.{Wrote, spaced, pair, Small, Edge, FourEdges, Answered};
+ghost use Rattle.rows.specs.Given.{spaced, pair, Edge, FourEdges, Answered};
 
-// Each of the functions that put something into the room gives the place behind it.
+// Each of the functions that put something into room gives the place behind it.
 fn put_byte(b: u8, out: &mut [u8], at: usize) -> usize
     requires { ⌜ at < length (now out) ⌝ }
     ensures { λ r. ⌜ Wrote (now (out .entry)) at (now (out .exit)) r (b ∷ []) ⌝ }

@@ -4,6 +4,7 @@ use borrow.Author.Needs.{needs}
 use Rattle.refusal.specs.Paper.{answer}
 use Rattle.refusal.proofs.PaperLaws.{fails, holds}
 use Rattle.label.specs.Label.{labelLength}
+use Rattle.label.proofs.WroteLaws.{wrote-end}
 use Rattle.label.proofs.writing.label_length.Statement.{statement}
 use Rattle.label.proofs.writing.label_length.Tie as tie
 
@@ -19,7 +20,7 @@ text-of-requires c κs = holds (c .before .is-sheet .ensures) (c .if1 .left)
 
 returns-2 : tie.Need-returns-2
 unfolding labelLength
-returns-2 c = rw (holds (c .before .before .is-sheet .ensures) (c .before .if1 .left)) (ap answer (c .text-of .ensures .long))
+returns-2 c = rw (holds (c .before .before .is-sheet .ensures) (c .before .if1 .left)) (ap answer (wrote-end (c .text-of .ensures)))
 
 pub label-length-spec : {M : Type 1} → statement M
 label-length-spec = tie.close (tie.spec is-sheet-requires returns text-of-requires returns-2)

@@ -3,7 +3,8 @@ use Prim.Native.Nat.{_+_, _/_, _%_}
 use native.Mathlib.Omega.{arith}
 use borrow.Author.Needs.{needs}
 use Rattle.label.proofs.LengthLaws.{two-long}
-use Rattle.label.proofs.WritingLaws.{behind-two, then}
+use Rattle.label.proofs.WritingLaws.{behind-two}
+use Rattle.label.proofs.WroteLaws.{then}
 use Rattle.label.proofs.writing.put_area.Statement.{statement}
 use Rattle.label.proofs.writing.put_area.Tie as tie
 
@@ -22,14 +23,14 @@ add-column c = search needs
 put-field-requires : tie.Need-put-field-requires
 put-field-requires c κs =
     let a = c .before .before in
-    record { room = omega (arith, a .pre .room, two-long (101 + a .args .i / a .args .columns) (1 + a .args .i % a .args .columns)); few = a .pre .few-row }
+    record { fits = omega (arith, a .pre .fits, two-long (101 + a .args .i / a .args .columns) (1 + a .args .i % a .args .columns)); few = a .pre .few-row }
 
 put-field-requires-2 : tie.Need-put-field-requires-2
 put-field-requires-2 c κs =
     let p = c .before .before .before in
     let a = p .before .before .before in
     record {
-      room = omega (arith, a .pre .room, two-long (101 + a .args .i / a .args .columns) (1 + a .args .i % a .args .columns), p .put-field .ensures .longer, p .put-field .kept .1 .0);
+      fits = omega (arith, a .pre .fits, two-long (101 + a .args .i / a .args .columns) (1 + a .args .i % a .args .columns), p .put-field .ensures .end, p .put-field .kept .1 .0);
       few = a .pre .few-column;
     }
 

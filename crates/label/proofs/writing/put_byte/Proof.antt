@@ -1,6 +1,6 @@
--- A byte is stored one place behind the last. Assumes nothing.
+-- The byte is stored at its place. Assumes nothing.
 use borrow.Author.Needs.{needs}
-use Rattle.label.proofs.WritingLaws.{with-one}
+use Rattle.label.proofs.WroteLaws.{wrote-byte}
 use Rattle.label.proofs.writing.put_byte.Statement.{statement}
 use Rattle.label.proofs.writing.put_byte.Tie as tie
 
@@ -14,7 +14,7 @@ same-length : tie.Need-same-length
 same-length c = search needs
 
 returns : tie.Need-returns
-returns c = record { longer = search needs; bytes = with-one (c .args .out .now) (c .args .at) (c .args .b) (c .pre) }
+returns c = wrote-byte (c .args .out .now) (c .args .at) (c .args .b) (c .pre)
 
 pub put-byte-spec : {M : Type 1} → statement M
 put-byte-spec = tie.close (tie.spec slice-write-out add-result same-length returns)

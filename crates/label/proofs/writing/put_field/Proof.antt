@@ -1,6 +1,6 @@
 -- The hyphen, and the number behind it. Assumes nothing.
 use borrow.Author.Needs.{needs}
-use Rattle.label.proofs.WritingLaws.{then}
+use Rattle.label.proofs.WroteLaws.{then}
 use Rattle.label.proofs.writing.put_field.Statement.{statement}
 use Rattle.label.proofs.writing.put_field.Tie as tie
 

@@ -1,13 +1,12 @@
 -- Each turn puts the number in the parent and goes on with the parent's fields, up to a scale that is made from the area. The measure is the parent. Assumes nothing.
 use native.Mathlib.Omega.{arith}
 use borrow.Author.Needs.{needs}
-use Rattle.label.specs.Given.{text}
 use Rattle.label.proofs.WritingLaws.{Going, going-first, area-room, going-done, some-parts, higher, number-room, going-next}
 use Rattle.label.proofs.writing.put_fields.Statement.{statement}
 use Rattle.label.proofs.writing.put_fields.Tie as tie
 
 abbrev Inv-loop : tie.InvT-loop
-Inv-loop s i out₀ at t₀ index₀ a₀ out t index a = Going s i (text out₀ at) t index (text out a)
+Inv-loop s i out₀ at t₀ index₀ a₀ out t index a = Going s i out₀ at t index out a
 
 abbrev μ-loop : tie.MeasureT-loop
 μ-loop s i out₀ at t₀ index₀ a₀ out t index a = t .parent
@@ -42,7 +41,7 @@ loop-again : tie.Need-loop-again Inv-loop μ-loop
 loop-again c =
     let p = c .before .before .before in
     let d = p .before .before in
-    going-next (d .before .before .loop .inv) (d .if1 .taken) (p .put-field .ensures) (p .put-field .kept .1 .0) (c .row2 .result) (c .row2 .ensures)
+    going-next (d .before .before .loop .inv) (d .if1 .taken) (p .put-field .ensures) (c .row2 .result) (c .row2 .ensures)
 
 put-area-requires : tie.Need-put-area-requires Inv-loop μ-loop
 put-area-requires c κs = let d = c .before in area-room (d .before .before .loop .inv) (d .if1 .left)

@@ -5,14 +5,13 @@ use borrow.Author.Needs.{needs}
 use mir.Val.{boolByte}
 use lib.ListN.{length, length-set}
 use Rattle.division.specs.Words.{_≤?_}
-use Rattle.label.proofs.SizeLaws.{size}
 use Rattle.label.proofs.WritingLaws.{last-in, digits-put}
 use Rattle.label.proofs.writing.put_number.Statement.{statement}
 use Rattle.label.proofs.writing.put_number.Tie as tie
 
 -- the last digit is within the room
 inside : (c : tie.Start) → c .args .at + boolByte (100 ≤? c .args .v) + boolByte (10 ≤? c .args .v) < length (c .args .out .now)
-inside c = last-in (c .args .out .now) (c .args .at) (c .args .v) (c .pre .few) (c .pre .room)
+inside c = last-in (c .args .out .now) (c .args .at) (c .args .v) (c .pre)
 
 cast-hundreds : tie.Need-cast-hundreds
 cast-hundreds c = search needs
@@ -60,10 +59,7 @@ same-length : tie.Need-same-length
 same-length c = search needs
 
 returns : tie.Need-returns
-returns c = record {
-  longer = omega (arith, size (c .args .v) (c .pre .few));
-  bytes = digits-put (c .args .out .now) (c .args .at) (c .args .v) (c .pre .few) (c .pre .room);
-}
+returns c = digits-put (c .args .out .now) (c .args .at) (c .args .v) (c .pre)
 
 pub put-number-spec : {M : Type 1} → statement M
 put-number-spec =

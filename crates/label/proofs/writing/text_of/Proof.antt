@@ -1,8 +1,7 @@
 -- A sheet has a scale and an index there, and its label has room. Assumes nothing.
-use mathlib.Core.Path.{refl}
 use borrow.Author.Needs.{needs}
 use Rattle.division.proofs.NumberLaws.{ranged}
-use Rattle.label.proofs.WritingLaws.{mark-room, fields-room, sheet-spelt}
+use Rattle.label.proofs.WritingLaws.{mark-room, fields-room, label-wrote}
 use Rattle.label.proofs.writing.text_of.Statement.{statement}
 use Rattle.label.proofs.writing.text_of.Tie as tie
 
@@ -22,7 +21,7 @@ put-number-requires : tie.Need-put-number-requires
 put-number-requires c κs =
     let m = c .before in
     let a = m .before .before .before in
-    rw (m .mark-of .ensures, m .before .before .of .ensures) (mark-room (a .args .sheet) (a .pre) refl refl)
+    rw (m .mark-of .ensures, m .before .before .of .ensures) (mark-room (a .args .sheet) (a .pre))
 
 sub-put-fields : tie.Need-sub-put-fields
 sub-put-fields c =
@@ -39,7 +38,7 @@ put-fields-requires c κs =
     let m = n .before .before in
     let a = m .before .before .before in
     let f = m .before .before .of .ensures in
-    rw (m .before .first .ensures, f) (fields-room (a .args .sheet) (a .pre) refl (rw (m .mark-of .ensures, f) at (n .put-number .ensures)) (n .put-number .kept .1 .0))
+    rw (m .before .first .ensures, f) (fields-room (a .args .sheet) (a .pre) (rw (m .mark-of .ensures, f) at (n .put-number .ensures)))
 
 returns : tie.Need-returns
 returns c =
@@ -47,7 +46,7 @@ returns c =
     let m = n .before .before in
     let a = m .before .before .before in
     let f = m .before .before .of .ensures in
-    sheet-spelt (a .args .sheet) (a .pre) refl (rw (m .mark-of .ensures, f) at (n .put-number .ensures))
+    label-wrote (a .args .sheet) (a .pre) (rw (m .mark-of .ensures, f) at (n .put-number .ensures))
     (rw (m .before .first .ensures, f) at (c .before .put-fields .ensures))
 
 pub text-of-spec : {M : Type 1} → statement M

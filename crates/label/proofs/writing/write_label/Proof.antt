@@ -1,12 +1,11 @@
 -- Past the test it is a sheet, and its label is laid. Assumes nothing.
 use mathlib.Core.Path.{_≡_, refl}
 use mathlib.Core.Bool.{true}
-use native.Mathlib.Omega.{arith}
 use borrow.Author.Needs.{needs}
 use Rattle.refusal.proofs.PaperLaws.{fails, holds}
 use Rattle.division.specs.Sheet.{isSheet}
 use Rattle.label.specs.Label.{writeLabel}
-use Rattle.label.proofs.LengthLaws.{label-high}
+use Rattle.label.proofs.WroteLaws.{wrote-taken}
 use Rattle.label.proofs.writing.write_label.Statement.{statement}
 use Rattle.label.proofs.writing.write_label.Tie as tie
 
@@ -25,9 +24,7 @@ text-of-requires : tie.Need-text-of-requires
 text-of-requires c κs = sheet c
 
 put-requires : tie.Need-put-requires
-put-requires c κs =
-    let e = c .before .before in
-    omega (arith, c .before .text-of .ensures .long, label-high (e .before .before .before .args .sheet) (sheet e))
+put-requires c κs = c .before .text-of .ensures .fits
 
 same-length : tie.Need-same-length
 same-length c = search needs
@@ -37,7 +34,7 @@ unfolding writeLabel
 returns-2 c =
     let p = c .before .before in
     let t = p .before .before in
-    rw (sheet (t .before), ← t .text-of .ensures .same) (p .put .ensures)
+    rw (sheet (t .before), ← wrote-taken (t .text-of .ensures)) (p .put .ensures)
 
 pub write-label-spec : {M : Type 1} → statement M
 write-label-spec =

@@ -4,7 +4,7 @@ use native.Mathlib.Omega.{arith}
 use lib.ListN.{length-take}
 use lib.Seq.{length-take-le}
 use borrow.Author.Needs.{needs}
-use Rattle.rows.proofs.WriteLaws.{same-long}
+use Rattle.label.proofs.WroteLaws.{same-long}
 use Rattle.rows.proofs.PartLaws.{kept-is}
 use Rattle.rows.proofs.feed.keep.Statement.{statement}
 use Rattle.rows.proofs.feed.keep.Tie as tie

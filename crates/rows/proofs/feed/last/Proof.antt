@@ -1,5 +1,5 @@
 -- No line has no row, and a line has its own. Assumes nothing.
-use Rattle.rows.proofs.WriteLaws.{wrote-none}
+use Rattle.label.proofs.WroteLaws.{wrote-none}
 use Rattle.rows.proofs.FeedLaws.{last-empty, last-some}
 use native.Mathlib.Omega.{arith}
 use borrow.Author.Needs.{needs}

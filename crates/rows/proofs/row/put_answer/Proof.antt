@@ -5,7 +5,7 @@ use native.Mathlib.Omega.{arith}
 use Rattle.refusal.specs.Paper.{answer}
 use Rattle.division.specs.Sheet.{isSheet, cornersOf}
 use Rattle.division.specs.Answers.{sheetPaper, cornersPaper}
-use Rattle.rows.proofs.WriteLaws.{then}
+use Rattle.label.proofs.WroteLaws.{then}
 use Rattle.division.proofs.MetreLaws.{corners-are}
 use Rattle.rows.proofs.WordLaws.{sheet-words, sheet-most, framed, not-refused}
 use borrow.Author.Needs.{needs}

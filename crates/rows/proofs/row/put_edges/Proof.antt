@@ -1,6 +1,6 @@
 -- Four edges, one behind the other. Assumes nothing.
 use native.Mathlib.Omega.{arith}
-use Rattle.rows.proofs.WriteLaws.{then}
+use Rattle.label.proofs.WroteLaws.{then}
 use Rattle.rows.proofs.WordLaws.{frame-words, short-back, short-again}
 use borrow.Author.Needs.{needs}
 use Rattle.rows.proofs.row.put_edges.Statement.{statement}

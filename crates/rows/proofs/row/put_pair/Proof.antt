@@ -1,7 +1,6 @@
 -- Two stores, one behind the other. Assumes nothing.
-use Prim.Native.Nat.{_+_, _/_, _%_}
 use lib.ListN.{length-set}
-use Rattle.rows.proofs.WriteLaws.{wrote-pair}
+use Rattle.rows.proofs.PairLaws.{pair-put}
 use borrow.Author.Needs.{needs}
 use Rattle.rows.proofs.row.put_pair.Statement.{statement}
 use Rattle.rows.proofs.row.put_pair.Tie as tie
@@ -34,7 +33,7 @@ same-length : tie.Need-same-length
 same-length c = search needs
 
 returns : tie.Need-returns
-returns c = wrote-pair (c .args .out .now) (c .args .at) (48 + c .args .v / 10) (48 + c .args .v % 10) (c .pre .fits)
+returns c = pair-put (c .args .out .now) (c .args .at) (c .args .v) (c .pre)
 
 pub put-pair-spec : {M : Type 1} → statement M
 put-pair-spec =

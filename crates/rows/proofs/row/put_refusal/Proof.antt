@@ -4,7 +4,7 @@ use lib.ListN.{length}
 use native.Mathlib.Omega.{arith}
 use Rattle.label.specs.Text.{text, decimal}
 use Rattle.label.proofs.DecimalLaws.{decimal-most}
-use Rattle.rows.proofs.WriteLaws.{then}
+use Rattle.label.proofs.WroteLaws.{then}
 use Rattle.rows.proofs.WordLaws.{refusal-words}
 use borrow.Author.Needs.{needs}
 use Rattle.rows.proofs.row.put_refusal.Statement.{statement}

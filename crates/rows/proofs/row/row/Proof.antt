@@ -6,7 +6,7 @@ use lib.ListN.{length}
 use Rattle.label.specs.Text.{decimal}
 use Rattle.catalogue.proofs.LineTheorems.{line-sheet}
 use Rattle.label.proofs.DecimalLaws.{decimal-most}
-use Rattle.rows.proofs.WriteLaws.{then}
+use Rattle.label.proofs.WroteLaws.{then}
 use Rattle.rows.proofs.WordLaws.{row-is}
 use borrow.Author.Needs.{needs}
 use Rattle.rows.proofs.row.row.Statement.{statement}
