@@ -7,8 +7,8 @@ use crate::sheets;
 use crate::write;
 use crate::write::OUT;
 use label::reading::read_label;
-use label::writing::label_length;
-use label::writing::write_label;
+use labelling::writing::label_length;
+use labelling::writing::write_label;
 
 // The label is what follows the word and a space.
 pub(crate) fn label(s: &[u8]) {

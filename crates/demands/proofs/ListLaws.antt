@@ -20,7 +20,7 @@ use Rattle.shelf.proofs.KindLaws.{sheets-count, sheets-over}
 use Rattle.shelf.proofs.ReadingLaws.{count-refused, count-room, count-read}
 use Rattle.shelf.proofs.NumberTheorems.{Bytes}
 use Rattle.demands.specs.Refusals.{isIn, Gives}
-use Rattle.demands.specs.Lists.{CountAbove, isByte}
+use Rattle.demands.specs.Lists.{CountAbove}
 use Rattle.demands.proofs.GivesLaws.{test-gives, given-listed, number-gives, entries-give}
 
 -- a count above the room gives 10
@@ -59,7 +59,7 @@ needs-above bytes room v e = by (readNumber bytes) refl (number-gives {listed = 
         (le-or-less (c .value) 4_096)
 
 -- bytes, as the number laws ask for them
-pub all-bytes : (bytes : List ℕ) → every isByte bytes ≡ true → Bytes bytes
+pub all-bytes : (bytes : List ℕ) → every (λ b. b ≤? 255) bytes ≡ true → Bytes bytes
 unfolding every
 all-bytes [] e = tt
-all-bytes (b ∷ bytes) e = let t = both (b ≤? 255) (every isByte bytes) e in (omega (arith, leb-true b 255 (t .0)), all-bytes bytes (t .1))
+all-bytes (b ∷ bytes) e = let t = both (b ≤? 255) (every (λ b. b ≤? 255) bytes) e in (omega (arith, leb-true b 255 (t .0)), all-bytes bytes (t .1))

@@ -1,7 +1,7 @@
 -- Demands 1, 2 and 3, of shelf lists.
 use Prim.Native.Nat.{ℕ, _≤_, _<_}
 use mathlib.Core.Path.{_≡_}
-use mathlib.Core.Bool.{Bool, true}
+use mathlib.Core.Bool.{true}
 use mathlib.Core.List.{List, []}
 use lib.ListN.{length, take}
 use Rattle.refusal.specs.Paper.{answer, refused, refuse_unless_}
@@ -60,12 +60,9 @@ abbrev pub OneSetOneList : Type 0
 OneSetOneList = (a b bytes : List ℕ) (room lent : ℕ) → writeList a room ≡ answer bytes → writeList b lent ≡ answer bytes → a ≡ b
 
 -- and no bytes are accepted but the list that is written for their set
-abbrev pub isByte : ℕ → Bool
-isByte b = b ≤? 255
-
 abbrev pub AcceptedListIsWritten : Type 0
 AcceptedListIsWritten =
-    (bytes : List ℕ) (room : ℕ) → every isByte bytes ≡ true → readList bytes room .ended ≡ answer tt →
+    (bytes : List ℕ) (room : ℕ) → every (λ b. b ≤? 255) bytes ≡ true → readList bytes room .ended ≡ answer tt →
     IsSheetSet (readList bytes room .placed) × (writeList (readList bytes room .placed) (length bytes) ≡ answer bytes)
 
 -- "A written list cut short gives "ends early" and exactly the sheets whose bytes are wholly before the cut". So no list reader will do

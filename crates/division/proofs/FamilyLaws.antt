@@ -7,7 +7,7 @@ use Rattle.division.specs.declared.Place.{Place}
 use Rattle.division.specs.declared.table.Row.{Row}
 use Rattle.division.specs.Table.{Made, ofArea, ofScale, rowsOf, columnsOf, made, rows, columns, parentScale, side, parts, sheets, codeRow}
 use Rattle.division.specs.Sheet.{numberIn, parentPlace, childPlace, areaIndex, areaPlace, partIndex, indexAt, placeAt}
-use Rattle.division.specs.Given.{IsScale, OnGrid, Indexed, AreaPlace, Parted, PartPlace}
+use Rattle.division.specs.Given.{IsScale, OnGrid, Indexed, Parted, PartPlace}
 use Rattle.division.proofs.MadeLaws.{Sound, On, quot, number-few, sheets-parts, on-parent, on-place, left-one, left-few}
 use Rattle.division.proofs.TableLaws.{grown, rules}
 use Rattle.division.proofs.NumberLaws.{index-few}
@@ -33,8 +33,8 @@ module _ {s : ℕ} (h : IsScale s) (e : parentScale s ≡ 0) where
   unfolding placeAt
   top-place i = ap (λ (m : Made). placeAt m i) top
 
-  pub top-few : (p : Place) → OnGrid s p → AreaPlace (columns s) p
-  top-few p o = record { few = omega (arith, top-index p, index-few o, rules h .few) }
+  pub top-few : (p : Place) → OnGrid s p → areaIndex (columns s) p ≤ 6_000_000
+  top-few p o = omega (arith, top-index p, index-few o, rules h .few)
 
 -- ---- a scale that is made from its parent's
 
@@ -127,7 +127,7 @@ module _ {s : ℕ} {p : Place} {t : Row} {at : Place} {index each : ℕ} (c : Cl
     top-parent : parentScale (c .up) ≡ 0
     top-parent = rw (c .row) at e
 
-    pub climb-area : AreaPlace (t .columns) at
+    pub climb-area : areaIndex (t .columns) at ≤ 6_000_000
     climb-area = rw (c .row) (top-few (c .on .scale) top-parent at (c .on))
 
     module _ (top : ℕ) (f : top ≡ areaIndex (t .columns) at) where

@@ -11,7 +11,7 @@ use lib.ListN.{length, getD}
 use mir.Val.{boolByte}
 use Rattle.division.specs.declared.Place.{Place}
 use Rattle.division.specs.Words.{_≤?_, _<?_, between, from, keep}
-use Rattle.division.specs.Table.{table, tableRow, rowsOf, columnsOf, made, rows, columns, sheets, first, last, scales}
+use Rattle.division.specs.Table.{table, tableRow, rowsOf, columnsOf, made, rows, columns, sheets, first, last}
 use Rattle.division.specs.Sheet.{isSheet, onGrid, indexAt, sheetOf, scaleOf, indexOf, placeOf}
 use Rattle.division.specs.Given.{IsScale, OnGrid, Indexed}
 use Rattle.division.proofs.TestLaws.{both, le-or-less}
@@ -73,7 +73,7 @@ module _ (s n : ℕ) (r : Ranged s n) where
       behind c h l = rw (later c (omega (arith, r .scale .one)) (omega (arith, r .scale .one, r .scale .nine)))
 
   -- and as many scales begin at or before it as the number of that scale says
-  pub begun-are : length (keep (λ c. first c ≤? n) scales) ≡ s
+  pub begun-are : length (keep (λ c. first c ≤? n) (from 1 9)) ≡ s
   begun-are =
       let e : 0 + (s + (9 - s)) ≡ 9 = omega (arith, r .scale .nine) in
       let k : keep (λ c. first c ≤? n) (from 1 (0 + (s + (9 - s)))) ≡ from (1 + 0) s = keep-range (λ c. first c ≤? n) 1 0 s (9 - s) (λ c h l. absurd (omega arith)) (λ c h l. begun c (omega arith) (omega arith)) (λ c h l. later c (omega arith) (omega (arith, r .scale .nine))) in

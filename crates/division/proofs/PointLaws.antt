@@ -5,7 +5,7 @@ use Prim.Native.Nat.{ℕ}
 use lib.IntN.{ℤ}
 use Rattle.division.specs.Words.{_≤ᶻ_, _<ᶻ_}
 use Rattle.division.specs.Grid.{area, owns, columnAt, rowAt}
-use Rattle.division.specs.Given.{IsScale, OnGrid, Across, Down}
+use Rattle.division.specs.Given.{IsScale, OnGrid}
 use Rattle.division.proofs.TestLaws.{both}
 use Rattle.division.proofs.GridLaws.{East, North, east, north, column-in, row-in}
 
@@ -29,11 +29,11 @@ pub record Inside (s : ℕ) (e n : ℤ) : Type 0 where
   pub tests : Owned (area .west) (area .east) (area .south) (area .north) e n
 
 module _ {s : ℕ} {e n : ℤ} (i : Inside s e n) where
-  pub across : Across s e
-  across = record { scale = i .scale; west = i .tests .west; east = i .tests .east }
+  pub across : IsScale s × (((area .west ≤ᶻ e) ≡ true) × ((e <ᶻ area .east) ≡ true))
+  across = (i .scale, (i .tests .west, i .tests .east))
 
-  pub down : Down s n
-  down = record { scale = i .scale; south = i .tests .south; north = i .tests .north }
+  pub down : IsScale s × (((area .south <ᶻ n) ≡ true) × ((n ≤ᶻ area .north) ≡ true))
+  down = (i .scale, (i .tests .south, i .tests .north))
 
   pub x : East e
   x = east e (i .tests .west) (i .tests .east)

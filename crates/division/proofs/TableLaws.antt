@@ -9,7 +9,7 @@ use native.Mathlib.Omega.{arith}
 use borrow.Author.Tests.{leb-true, leb-false, le-leb}
 use lib.ListN.{getD, List·getD-eq-default}
 use Rattle.division.specs.Words.{_≤?_, _=?_, from, keep}
-use Rattle.division.specs.Table.{isScale, Made, TableRow, sideOf, ofArea, ofScale, table, tableRow, rowsOf, columnsOf, width, height, made, rows, columns, parentScale, side, parts, sheets, first, codeRow, scales, theScale}
+use Rattle.division.specs.Table.{isScale, Made, TableRow, sideOf, ofArea, ofScale, table, tableRow, rowsOf, columnsOf, width, height, made, rows, columns, parentScale, side, parts, sheets, first, codeRow, theScale}
 use Rattle.division.specs.Given.{IsScale}
 use Rattle.division.proofs.TestLaws.{both}
 use Rattle.division.proofs.MadeLaws.{Sound}
@@ -58,7 +58,7 @@ pub record Rules (s : ℕ) : Type 0 where
   -- the width tells the scale
   pub told : theScale (λ t. width t =? width s) ≡ s
   -- its row stands where the code's table has it
-  pub listed : getD (map codeRow scales) (s - 1) (codeRow 0) ≡ codeRow s
+  pub listed : getD (map codeRow (from 1 9)) (s - 1) (codeRow 0) ≡ codeRow s
 
 nine : Each Rules 9
 unfolding table tableRow rowsOf columnsOf from keep

@@ -12,8 +12,7 @@ use mir.Syntax.{w64}
 use mir.Val.{SFits, toZ, ofZ}
 use mir.Facts.{toZ-ofZ}
 use mir.ValLaws.{toZ-pos}
-use Rattle.division.specs.Words.{_≤?_, between}
-use Rattle.division.specs.Given.{Rising}
+use Rattle.division.specs.Words.{_≤?_, _≤ᶻ_, between}
 
 pub both : (a b : Bool) → (a && b) ≡ true → (a ≡ true) × (b ≡ true)
 both true b e = (refl, e)
@@ -71,10 +70,14 @@ pub record Gap (a b : ℤ) : Type 0 where
   pub is : b -ℤ a ≡ pos n
   pub few : n ≤ mag b
 
-pub gap : (a b : ℤ) → Rising a b → Gap a b
+-- two numbers that are not negative, the second not below the first
+abbrev pub Ahead : ℤ → ℤ → Type 0
+Ahead a b = ((pos 0 ≤ᶻ a) ≡ true) × ((a ≤ᶻ b) ≡ true)
+
+pub gap : (a b : ℤ) → Ahead a b → Gap a b
 gap a b r =
-    let x = from-pos a (r .plain) .0 in
-    let y = from-pos b (rw (x .is) at (r .rises)) in
+    let x = from-pos a (r .0) .0 in
+    let y = from-pos b (rw (x .is) at (r .1)) in
     record { n = y .0 .n - x .n; is = less-plain (x .is) (y .0 .is) (y .1); few = omega (arith, ap mag (y .0 .is)) }
 
 -- ---- differences of either sign

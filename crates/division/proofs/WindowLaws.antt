@@ -12,8 +12,8 @@ use Rattle.division.specs.Words.{_≤ᶻ_, _<ᶻ_, _<?_}
 use Rattle.division.specs.Table.{width, height, rows, columns}
 use Rattle.division.specs.Grid.{millimetres, area, westOf, northOf}
 use Rattle.division.specs.Cover.{columnsIn, rowsIn}
-use Rattle.division.specs.Given.{Rising, Seen, Stretch, spanOf}
-use Rattle.division.proofs.TestLaws.{both, from-pos, after-pos, pos-minus, same-leb}
+use Rattle.division.specs.Given.{Seen, Stretch, spanOf}
+use Rattle.division.proofs.TestLaws.{Ahead, both, from-pos, after-pos, pos-minus, same-leb}
 use Rattle.division.proofs.GridLaws.{some-width, some-height, all-columns, all-rows, high-in, north-is}
 use Rattle.division.proofs.SpanLaws.{Spans, meets, span-run}
 
@@ -69,17 +69,17 @@ same a b c d f g = same-leb (suc a) b (suc c) d f g
 module _ {s : ℕ} {w : Edges} (h : Seen s w) where
   -- ---- its edges lie beyond the area's west edge, and before the area's north edge
 
-  pub west-rises : Rising (area .west) (w .west)
-  west-rises = let b = bounds h in rw (b .is) (record { plain = refl; rises = le-leb 200_000_000 (b .west) (b .west-in) })
+  pub west-rises : Ahead (area .west) (w .west)
+  west-rises = let b = bounds h in rw (b .is) (refl, le-leb 200_000_000 (b .west) (b .west-in))
 
-  pub east-rises : Rising (area .west) (w .east)
-  east-rises = let b = bounds h in rw (b .is) (record { plain = refl; rises = le-leb 200_000_000 (b .east) (omega (arith, b .west-in, b .wide)) })
+  pub east-rises : Ahead (area .west) (w .east)
+  east-rises = let b = bounds h in rw (b .is) (refl, le-leb 200_000_000 (b .east) (omega (arith, b .west-in, b .wide)))
 
-  pub north-rises : Rising (w .north) (area .north)
-  north-rises = let b = bounds h in rw (b .is) (record { plain = le-leb 0 (b .north) (omega arith); rises = le-leb (b .north) 5_170_000_000 (b .north-in) })
+  pub north-rises : Ahead (w .north) (area .north)
+  north-rises = let b = bounds h in rw (b .is) (le-leb 0 (b .north) (omega arith), le-leb (b .north) 5_170_000_000 (b .north-in))
 
-  pub south-rises : Rising (w .south) (area .north)
-  south-rises = let b = bounds h in rw (b .is) (record { plain = le-leb 0 (b .south) (omega arith); rises = le-leb (b .south) 5_170_000_000 (omega (arith, b .north-in, b .high)) })
+  pub south-rises : Ahead (w .south) (area .north)
+  south-rises = let b = bounds h in rw (b .is) (le-leb 0 (b .south) (omega arith), le-leb (b .south) 5_170_000_000 (omega (arith, b .north-in, b .high)))
 
   -- ---- the stretches between them, and the columns and rows that these meet
 

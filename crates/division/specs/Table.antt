@@ -52,12 +52,9 @@ table =
 abbrev pub isScale : ℕ → Bool
 isScale s = between 1 9 s
 
-abbrev pub scales : List ℕ
-scales = from 1 9
-
 -- the scale that passes a test, the first if several do; 0 for none
 abbrev pub theScale : (ℕ → Bool) → ℕ
-theScale test = getD (keep test scales) 0 0
+theScale test = getD (keep test (from 1 9)) 0 0
 
 -- the table's row for a scale, and a row of zeros for no scale
 unfoldable pub tableRow : ℕ → TableRow

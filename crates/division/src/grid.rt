@@ -3,9 +3,13 @@ use crate::Edges;
 use crate::Place;
 use crate::table::Scale;
 ghost use mathlib.Core.Path.{_≡_};
-ghost use lib.IntN.{natAbs, _-ℤ_};
+ghost use mathlib.Core.Bool.{true};
+ghost use Prim.Native.Nat.{_≤_};
+ghost use lib.IntN.{pos, natAbs, _-ℤ_};
+ghost use Rattle.division.specs.Words.{_≤ᶻ_, _<ᶻ_};
+ghost use Rattle.division.specs.Table.{rows, columns};
 ghost use Rattle.division.specs.Grid.{area, owns, millimetres, columnAt, rowAt, westOf, northOf, edgesOf};
-ghost use Rattle.division.specs.Given.{Rising, Across, Down, ColumnEdge, RowEdge, OnGrid};
+ghost use Rattle.division.specs.Given.{IsScale, OnGrid};
 
 // The edges of the area.
 pub const WEST: i64 = 200_000_000;
@@ -30,7 +34,8 @@ pub(crate) fn millimetres(m: u32) -> u64
 
 // How far b lies beyond a.
 pub(crate) fn distance(b: i64, a: i64) -> u64
-    requires { ⌜ Rising a b ⌝ }
+    requires { ⌜ (pos 0 ≤ᶻ a) ≡ true ⌝ }
+    requires { ⌜ (a ≤ᶻ b) ≡ true ⌝ }
     ensures { λ r. ⌜ r ≡ natAbs (b -ℤ a) ⌝ }
 {
     (b - a) as u64
@@ -38,7 +43,9 @@ pub(crate) fn distance(b: i64, a: i64) -> u64
 
 // The column and the row of a scale in which a point of the area lies.
 pub(crate) fn column_at(s: u32, e: i64) -> u32
-    requires { ⌜ Across s e ⌝ }
+    requires { ⌜ IsScale s ⌝ }
+    requires { ⌜ (area .west ≤ᶻ e) ≡ true ⌝ }
+    requires { ⌜ (e <ᶻ area .east) ≡ true ⌝ }
     ensures { λ r. ⌜ r ≡ columnAt s e ⌝ }
 {
     let w = millimetres(Scale(s).width());
@@ -46,7 +53,9 @@ pub(crate) fn column_at(s: u32, e: i64) -> u32
 }
 
 pub(crate) fn row_at(s: u32, n: i64) -> u32
-    requires { ⌜ Down s n ⌝ }
+    requires { ⌜ IsScale s ⌝ }
+    requires { ⌜ (area .south <ᶻ n) ≡ true ⌝ }
+    requires { ⌜ (n ≤ᶻ area .north) ≡ true ⌝ }
     ensures { λ r. ⌜ r ≡ rowAt s n ⌝ }
 {
     let h = millimetres(Scale(s).height());
@@ -55,7 +64,8 @@ pub(crate) fn row_at(s: u32, n: i64) -> u32
 
 // The west edge of a column and the north edge of a row; one past the last is the area's east and south edge.
 fn west_of(s: u32, column: u32) -> i64
-    requires { ⌜ ColumnEdge s column ⌝ }
+    requires { ⌜ IsScale s ⌝ }
+    requires { ⌜ column ≤ columns s ⌝ }
     ensures { λ r. ⌜ r ≡ westOf s column ⌝ }
 {
     let w = millimetres(Scale(s).width());
@@ -64,7 +74,8 @@ fn west_of(s: u32, column: u32) -> i64
 }
 
 fn north_of(s: u32, row: u32) -> i64
-    requires { ⌜ RowEdge s row ⌝ }
+    requires { ⌜ IsScale s ⌝ }
+    requires { ⌜ row ≤ rows s ⌝ }
     ensures { λ r. ⌜ r ≡ northOf s row ⌝ }
 {
     let h = millimetres(Scale(s).height());

@@ -13,11 +13,11 @@ use crate::table::is_scale;
 use refusal::Refusal;
 ghost use mathlib.Core.Path.{_≡_};
 ghost use mathlib.Core.Bool.{true};
-ghost use Prim.Native.Nat.{_<_};
+ghost use Prim.Native.Nat.{_≤_, _<_};
 ghost use Rattle.division.specs.Table.{made};
 ghost use Rattle.division.specs.Sheet.{isSheet, areaIndex, areaPlace, numberIn, parentPlace, childPlace, indexAt, placeAt, sheetOf, scaleOf, spotOf, onGrid, locate, sheetOn, sheetAt, cornersOf};
 ghost use Rattle.division.specs.Answers.{sheetPaper, spotPaper, cornersPaper};
-ghost use Rattle.division.specs.Given.{OnGrid, Indexed, Parted, PartPlace, AreaPlace};
+ghost use Rattle.division.specs.Given.{OnGrid, Indexed, Parted, PartPlace};
 
 pub fn is_sheet(n: u32) -> bool
     ensures { λ r. ⌜ r ≡ isSheet n ⌝ }
@@ -27,7 +27,7 @@ pub fn is_sheet(n: u32) -> bool
 
 // A place of the area in columns, and its index.
 fn area_index(columns: u32, p: Place) -> u32
-    requires { ⌜ AreaPlace columns p ⌝ }
+    requires { ⌜ areaIndex columns p ≤ 6_000_000 ⌝ }
     ensures { λ r. ⌜ r ≡ areaIndex columns p ⌝ }
 {
     p.row * columns + p.column

@@ -6,8 +6,6 @@ pub mod SpellLaws
 pub mod LabelTheorems
 pub mod SizeLaws
 pub mod LengthLaws
-pub mod WroteLaws
-pub mod WritingLaws
 pub mod ByteLaws
 pub mod WritingTheorems
 pub mod ScanLaws

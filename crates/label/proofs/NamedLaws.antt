@@ -13,7 +13,7 @@ use Rattle.refusal.specs.Paper.{Paper, answer, refused, refuse_unless_, _>>_, _
 use Rattle.refusal.specs.Numbers.{onPaper}
 use Rattle.refusal.proofs.PaperLaws.{passed, same-answer, on-paper}
 use Rattle.division.specs.Words.{_=?_, from, keep}
-use Rattle.division.specs.Table.{isScale, scales, made, table, tableRow}
+use Rattle.division.specs.Table.{isScale, made, table, tableRow}
 use Rattle.division.specs.Given.{IsScale}
 use Rattle.division.proofs.TestLaws.{both}
 use Rattle.division.proofs.TableLaws.{scale}
@@ -37,7 +37,7 @@ unfolding scaleWith
 with mark count n =
     let test : ℕ → Bool = λ s. markOf s =? mark && 1 + countOf (made s) =? count in
     let s = scaleWith mark count in
-    let k = keep-has test scales (first-in (keep test scales) n) in
+    let k = keep-has test (from 1 9) (first-in (keep test (from 1 9)) n) in
     let m = from-has 1 9 (k .0) in
     let b = both (markOf s =? mark) (1 + countOf (made s) =? count) (k .1) in
     record {

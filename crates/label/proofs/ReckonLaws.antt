@@ -21,7 +21,7 @@ use Rattle.division.proofs.FamilyLaws.{top, deep, above, parted, sheets-by, eac
 use Rattle.label.specs.declared.reading.Reckoned.{Reckoned}
 use Rattle.label.specs.declared.reading.Reckoned.the-variants.{At, Out}
 use Rattle.label.specs.Label.{countOf, inRange, placeFrom, sheetNamed}
-use Rattle.label.specs.Given.{Fields, reckon, reckonArea, reckonBelow, Below}
+use Rattle.label.specs.Given.{Fields, reckon, reckonArea, reckonBelow}
 use Rattle.label.proofs.FieldLaws.{on-from, index-part}
 
 -- what is reckoned is an index of the scale
@@ -130,14 +130,11 @@ module _ {s : ℕ} {fs : List ℕ} {t : Row} {i index each : ℕ} (c : Reckoning
       at-top : top ≡ reckon (made (c .up)) (drop i fs)
       at-top = rw (c .row) at f ∙ sym (reckon-top (c .fields) top-parent ∙ rw (getD-drop i fs 0 0, getD-drop i fs 1 0, add-zero i))
 
-      pub top-below : Below index each top
-      top-below = record { few = few }
-        where
-          few : (up : ℕ) → top ≡ At up → index + each * up < 6_000_000
-          few up g =
-              let l : up < sheets (c .up) = reckon-few (made (c .up)) (drop i fs) (rules (c .fields .scale) .sound) (sym at-top ∙ g) in
-              let m : each * (up + 1) ≤ each * sheets (c .up) = mul-le-mul-left each (omega arith) in
-              omega (arith, m, mul-add each up 1, c .all, c .less, rules (c .scale) .few)
+      pub top-below : (up : ℕ) → top ≡ At up → index + each * up < 6_000_000
+      top-below up g =
+          let l : up < sheets (c .up) = reckon-few (made (c .up)) (drop i fs) (rules (c .fields .scale) .sound) (sym at-top ∙ g) in
+          let m : each * (up + 1) ≤ each * sheets (c .up) = mul-le-mul-left each (omega arith) in
+          omega (arith, m, mul-add each up 1, c .all, c .less, rules (c .scale) .few)
 
       pub reckoning-done : reckonBelow index each top ≡ reckon (made s) fs
       reckoning-done = rw at-top (sym (c .rest))

@@ -1,16 +1,16 @@
 -- What the inner functions take for granted and give: the public ones test it first.
-use Prim.Native.Nat.{ℕ, _+_, _-_, _*_, _/_, _%_, _≤_, _<_}
+use Prim.Native.Nat.{ℕ, _+_, _-_, _*_, _≤_, _<_}
 use Prim.Native.Char.{code}
 use mathlib.Core.Path.{_≡_}
 use mathlib.Core.Bool.{cond, _&&_}
-use mathlib.Core.List.{List, [], _∷_, _++_, map, flatMap}
-use lib.ListN.{length, take, drop}
+use mathlib.Core.List.{List, [], _∷_, map, flatMap}
+use lib.ListN.{length, take}
 use Rattle.refusal.specs.Paper.{Paper, answer}
 use Rattle.refusal.specs.Numbers.{onPaper}
 use Rattle.division.specs.Words.{between}
 use Rattle.division.specs.Table.{Made, made}
 use Rattle.division.specs.Sheet.{indexAt, placeAt}
-use Rattle.division.specs.Given.{IsScale, Indexed}
+use Rattle.division.specs.Given.{IsScale}
 use Rattle.label.specs.declared.reading.Named.{Named}
 use Rattle.label.specs.declared.reading.Named.the-variants as named
 use Rattle.label.specs.declared.reading.Named.the-variants.{Scale}
@@ -55,16 +55,7 @@ abbrev pub reckonBelow : ℕ → ℕ → Reckoned → Reckoned
 reckonBelow index each (At up) = At (index + each * up)
 reckonBelow index each Out = Out
 
-pub record Below (index each : ℕ) (above : Reckoned) : Type 0 where
-  pub few : (up : ℕ) → above ≡ At up → index + each * up < 6_000_000
-
 -- ---- writing
-
--- d became e: the bytes stand from a place on, r is the place behind them, within the room, and all else is as it was
-pub record Wrote (d : List ℕ) (at : ℕ) (e : List ℕ) (r : ℕ) (bytes : List ℕ) : Type 0 where
-  pub same : e ≡ take at d ++ (bytes ++ drop (at + length bytes) d)
-  pub end : r ≡ at + length bytes
-  pub fits : r ≤ length d
 
 -- a number below so many, and room for so many bytes
 pub record Small (most v size at room : ℕ) : Type 0 where
@@ -75,20 +66,6 @@ pub record Small (most v size at room : ℕ) : Type 0 where
 abbrev pub behind : List ℕ → List ℕ
 behind fs = flatMap (λ other. code "-" ∷ other) (map decimal fs)
 
--- the fields of an index of the area in columns, and room for them
-abbrev pub areaFields : ℕ → ℕ → List ℕ
-areaFields c i = (101 + i / c) ∷ (1 + i % c) ∷ []
-
-pub record AreaRoom (c i at room : ℕ) : Type 0 where
-  pub some : 0 < c
-  pub few-row : 101 + i / c < 1_000
-  pub few-column : 1 + i % c < 1_000
-  pub fits : at + length (behind (areaFields c i)) ≤ room
-
--- the fields of an index of a scale, and room for them
+-- the fields of an index of a scale
 abbrev pub indexFields : ℕ → ℕ → List ℕ
 indexFields s i = fieldsOf (made s) (placeAt (made s) i)
-
-pub record Room (s i at room : ℕ) : Type 0 where
-  pub indexed : Indexed s i
-  pub fits : at + length (behind (indexFields s i)) ≤ room

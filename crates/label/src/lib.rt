@@ -1,4 +1,4 @@
-// Labels (document 01, "Labels"): from bytes to a sheet, and from a sheet to bytes.
+// Labels (document 01, "Labels"): their definitions and theorems, and from bytes to a sheet. From a sheet to bytes is crates/labelling.
 //
 // A label is the first number of its scale and then the fields of its sheet, joined by hyphens:
 //   250, 100 or 50; row; column             1:250 000, 1:100 000, 1:50 000
@@ -9,4 +9,3 @@
 // Rows count from 101 and columns from 1; a number is the sheet's in its parent, then the parent's in its own.
 // No two accepted labels stand for the same ground: a label is accepted exactly if it is the one that is written for its sheet.
 pub mod reading;
-pub mod writing;

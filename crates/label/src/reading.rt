@@ -3,13 +3,14 @@ use division::Found;
 use division::table::Scale;
 use refusal::Refusal;
 ghost use mathlib.Core.Path.{_≡_};
-ghost use Prim.Native.Nat.{_*_, _≤_};
+ghost use Prim.Native.Nat.{ℕ, _+_, _*_, _≤_, _<_};
 ghost use lib.ListN.{length, replicate};
 ghost use Rattle.division.specs.Words.{between};
 ghost use Rattle.division.specs.Table.{made};
 ghost use Rattle.division.specs.Answers.{sheetPaper};
+ghost use Rattle.label.specs.declared.reading.Reckoned.the-variants.{At};
 ghost use Rattle.label.specs.Label.{scaleNamed, sheetNamed, readLabel};
-ghost use Rattle.label.specs.Given.{numbersOf, Held, scalePaper, reckon, Fields, reckonArea, reckonBelow, Below};
+ghost use Rattle.label.specs.Given.{numbersOf, Held, scalePaper, reckon, Fields, reckonArea, reckonBelow};
 
 fn wide(b: u8) -> u64
     ensures { λ r. ⌜ r ≡ b ⌝ }
@@ -171,7 +172,7 @@ fn area_index(rows: u32, columns: u32, row: u64, column: u64) -> Reckoned
 
 // The index `index` of those below one that is reckoned, with `each` below one.
 fn index_below(index: u32, each: u32, above: Reckoned) -> Reckoned
-    requires { ⌜ Below index each above ⌝ }
+    requires { ⌜ ((up : ℕ) → above ≡ At up → index + each * up < 6_000_000) ⌝ }
     ensures { λ r. ⌜ r ≡ reckonBelow index each above ⌝ }
 {
     match above {

@@ -1,11 +1,11 @@
 // Reads catalogue lines of any length from standard input and prints a row for each. It reads, writes and says what failed; what is
-// printed is up to `turn`, by which `rows::run::print` is proved to print what it should.
+// printed is up to `turn`, by which `run::print::print` is proved to print what it should.
 use libc::STDERR_FILENO;
 use libc::STDIN_FILENO;
 use libc::STDOUT_FILENO;
-use rows::run::State;
-use rows::run::begin;
-use rows::run::turn;
+use run::turn::State;
+use run::turn::begin;
+use run::turn::turn;
 ghost use Prim.Native.Nat.{_≤_};
 ghost use lib.ListN.{length};
 

@@ -2,8 +2,8 @@
 use crate::tell::tell_laid;
 use crate::tell::tell_sheet;
 use label::reading::read_label;
-use label::writing::label_length;
-use label::writing::write_label;
+use labelling::writing::label_length;
+use labelling::writing::write_label;
 ghost use mathlib.Core.Path.{_≡_};
 ghost use lib.ListN.{length};
 ghost use Rattle.refusal.specs.Paper.{counted, roomAfter};

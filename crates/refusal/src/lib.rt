@@ -1,5 +1,9 @@
-// The refusals of document 01, "Numbers of refusal". Every question of the box gets its answer or one of these seventeen.
-ghost use Rattle.refusal.specs.Numbers.{IsNumbered};
+// The refusals of document 01, "Numbers of refusal". Every question of the box gets its answer or one of these seventeen. What is laid into
+// lent room goes by `lay`.
+ghost use mathlib.Core.Path.{_≡_};
+ghost use lib.ListN.{length};
+ghost use Rattle.refusal.specs.Paper.{laid, counted, roomAfter};
+ghost use Rattle.refusal.specs.Numbers.{IsNumbered, laidPaper};
 
 // Why there is no answer, in the order of the paper's numbers 1 to 17.
 pub enum Refusal {
@@ -56,4 +60,20 @@ impl Refusal {
             Refusal::NameScale => Numbered(17, 0, false),
         }
     }
+}
+
+// Lays bytes into lent room, where they fit.
+pub fn lay(bytes: &[u8], room: &mut [u8]) -> Laid
+    ensures { λ r. ⌜ laidPaper r ≡ counted (laid (now (bytes .entry)) (length (now (room .entry)))) ⌝ }
+    ensures { λ r. ⌜ now (room .exit) ≡ roomAfter (laid (now (bytes .entry)) (length (now (room .entry)))) (now (room .entry)) ⌝ }
+{
+    if room.len() < bytes.len() {
+        return Laid::Refused(Refusal::Room(bytes.len()));
+    }
+    let mut i: usize = 0;
+    while i < bytes.len() {
+        room[i] = bytes[i];
+        i += 1;
+    }
+    Laid::Items(i)
 }

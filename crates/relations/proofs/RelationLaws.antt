@@ -18,7 +18,7 @@ use Rattle.division.specs.Words.{_≤?_, _=?_, _≤ᶻ_, _<ᶻ_, between}
 use Rattle.division.specs.Table.{rows, columns, sheets, first, parentScale, parts}
 use Rattle.division.specs.Sheet.{isSheet, scaleOf, indexOf, partIndex, sheetOf, spotOf, locate, sheetOn}
 use Rattle.relations.specs.Relations.{moved, stays, isPart}
-use Rattle.relations.specs.Given.{Standing, Part}
+use Rattle.relations.specs.Given.{Part}
 use Rattle.division.specs.Given.{IsScale, OnGrid}
 use Rattle.division.proofs.TestLaws.{both, Plain, from-pos, le-shift, lt-shift}
 use Rattle.division.proofs.TableLaws.{rules, is-scale}
@@ -59,12 +59,12 @@ stayed at by count e =
     record { to = p; in-count = ltb-true (p .n) count (rw (p .is) at (b .1)) }
 
 -- a place that stays both ways is on the grid
-pub walked-on : (at : Spot) (east south : ℤ) → Standing at → stays (at .place .column) east (columns (at .scale)) ≡ true → stays (at .place .row) south (rows (at .scale)) ≡ true
+pub walked-on : (at : Spot) (east south : ℤ) → OnGrid (at .scale) (at .place) → stays (at .place .column) east (columns (at .scale)) ≡ true → stays (at .place .row) south (rows (at .scale)) ≡ true
     → OnGrid (at .scale) (record { row = natAbs (moved (at .place .row) south); column = natAbs (moved (at .place .column) east) })
 walked-on at east south h e f =
     let x = stayed (at .place .column) east (columns (at .scale)) e in
     let y = stayed (at .place .row) south (rows (at .scale)) f in
-    record { scale = h .on .scale; in-rows = rw (y .to .is) (y .in-count); in-columns = rw (x .to .is) (x .in-count) }
+    record { scale = h .scale; in-rows = rw (y .to .is) (y .in-count); in-columns = rw (x .to .is) (x .in-count) }
 
 -- a row of three, place by place
 pub three : {A : Type 0} {a b c x y z : A} → a ≡ x → b ≡ y → c ≡ z → a ∷ b ∷ c ∷ [] ≡ x ∷ y ∷ z ∷ []

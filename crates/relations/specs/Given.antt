@@ -1,11 +1,5 @@
 -- What the inner functions take for granted: the public ones test it first.
 use Prim.Native.Nat.{ℕ, _+_, _*_, _≤_}
-use Rattle.division.specs.declared.Spot.{Spot}
-use Rattle.division.specs.Given.{OnGrid}
-
--- a place on the grid of its scale
-pub record Standing (at : Spot) : Type 0 where
-  pub on : OnGrid (at .scale) (at .place)
 
 -- part number `number` of a parent at index `up`
 pub record Part (parts up number : ℕ) : Type 0 where

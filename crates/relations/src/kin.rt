@@ -17,8 +17,9 @@ ghost use mathlib.Core.Bool.{true};
 ghost use lib.IntN.{pos, natAbs, _-ℤ_};
 ghost use Rattle.division.specs.Sheet.{partIndex};
 ghost use Rattle.division.specs.Answers.{sheetPaper};
+ghost use Rattle.division.specs.Given.{OnGrid};
 ghost use Rattle.relations.specs.Answers.{offsetPaper};
-ghost use Rattle.relations.specs.Given.{Standing, Part};
+ghost use Rattle.relations.specs.Given.{Part};
 ghost use Rattle.relations.specs.Relations.{parent, child, isPart, moved, stays, walk, step, apart, offsetFrom, offset, orNone, neighbourRow, neighbours};
 
 // The sheet that a sheet is a part of.
@@ -102,7 +103,7 @@ fn moved(at: u32, by: i64, count: u32) -> u32
 
 // The sheet so many columns east and rows south of a place.
 fn walk(at: Spot, east: i64, south: i64) -> Found
-    requires { ⌜ Standing at ⌝ }
+    requires { ⌜ OnGrid (at .scale) (at .place) ⌝ }
     ensures { λ r. ⌜ sheetPaper r ≡ walk at east south ⌝ }
 {
     let s = at.scale;

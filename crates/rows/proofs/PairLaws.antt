@@ -5,10 +5,11 @@ use Prim.Native.Nat.{ℕ, _+_, _/_, _%_, _^_, _≤_, _<_}
 use native.Mathlib.Omega.{arith}
 use lib.ListN.{length, set, length-append}
 use Rattle.label.specs.Text.{decimal}
-use Rattle.label.specs.Given.{Wrote, Small}
+use Rattle.refusal.specs.Given.{Wrote}
+use Rattle.label.specs.Given.{Small}
 use Rattle.label.proofs.DecimalLaws.{decimal-more}
 use Rattle.label.proofs.SizeLaws.{decimal-2}
-use Rattle.label.proofs.WroteLaws.{wrote-byte, wrote-next}
+use Rattle.refusal.proofs.WroteLaws.{wrote-byte, wrote-next}
 use Rattle.rows.specs.Given.{pair}
 
 -- a pair is put by two stores

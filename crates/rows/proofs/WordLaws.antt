@@ -11,6 +11,7 @@ use mir.Syntax.{w64}
 use mir.Val.{toZ, ofZ}
 use Rattle.refusal.specs.Paper.{answer, refused, isAnswer}
 use Rattle.refusal.specs.Numbers.{onPaper}
+use Rattle.refusal.specs.Given.{Wrote}
 use Rattle.refusal.specs.declared.Refusal.{Refusal}
 use Rattle.refusal.proofs.PaperLaws.{no-answer}
 use Rattle.division.specs.declared.Edges.{Edges}
@@ -19,8 +20,8 @@ use Rattle.division.proofs.TestLaws.{from-pos, returned}
 use Rattle.division.proofs.MetreLaws.{Hundreds, corners-ground, corners-hundreds}
 use Rattle.label.specs.Text.{text, join, decimal}
 use Rattle.catalogue.specs.Line.{readLine}
-use Rattle.rows.specs.Program.{metres, frameWords, words, outputLine}
-use Rattle.rows.specs.Given.{spaced, Short, FourEdges}
+use Rattle.rows.specs.Row.{metres, frameWords, words, outputLine}
+use Rattle.rows.specs.Given.{spaced, Short, AllShort}
 use Rattle.label.proofs.DecimalLaws.{decimal-most}
 
 -- ---- words behind spaces
@@ -37,9 +38,12 @@ pub refusal-words : (number value : ℕ) → spaced (words (refused number value
 unfolding flatMap
 refusal-words number value = ap (λ (l : List ℕ). (32 ∷ text "refused") ++ l) (append-nil (32 ∷ decimal number))
 
-pub row-is : (number : ℕ) (line : List ℕ) → outputLine number line ≡ decimal number ++ (spaced (words (readLine line)) ++ (10 ∷ []))
+row-is : (number : ℕ) (line : List ℕ) → outputLine number line ≡ decimal number ++ (spaced (words (readLine line)) ++ (10 ∷ []))
 unfolding outputLine join
 row-is number line = append-assoc (decimal number) (spaced (words (readLine line))) (10 ∷ [])
+
+pub row-wrote : (number : ℕ) (line : List ℕ) {d e : List ℕ} {r : ℕ} → Wrote d 0 e r (decimal number ++ (spaced (words (readLine line)) ++ (10 ∷ []))) → Wrote d 0 e r (outputLine number line)
+row-wrote number line w = rw (row-is number line) w
 
 -- ---- edges in metres
 
@@ -65,10 +69,10 @@ module _ (n : ℕ) (h : isSheet n ≡ true) where
   sheet-most = let l = leb-true n 7_953_173 h in decimal-most 6 n (omega arith) (omega arith)
 
   -- its corners are answered, and their edges are short
-  pub framed : {e : Edges} {at room : ℕ} → answer e ≡ cornersOf n → at + 32 ≤ room → FourEdges e at room
-  framed q f =
+  pub framed : {e : Edges} → answer e ≡ cornersOf n → AllShort e
+  framed q =
       let k = corners-hundreds n h q in
-      record { west = short (k .west) (omega arith); east = short (k .east) (omega arith); south = short (k .south) (omega arith); north = short (k .north) (omega arith); fits = f }
+      (short (k .west) (omega arith), short (k .east) (omega arith), short (k .south) (omega arith), short (k .north) (omega arith))
 
   pub not-refused : (why : Refusal) → onPaper why ≡ cornersOf n → ⊥
   not-refused why q = let z : true ≡ false = ap isAnswer (sym (q ∙ corners-ground n h)) ∙ no-answer Edges why in let y : _≡_ {A = ℕ} 0 1 = cc in omega arith

@@ -4,16 +4,21 @@ use division::Corners;
 use division::Edges;
 use division::Found;
 use division::sheet::corners_of;
+use refusal::Laid;
 use refusal::Refusal;
+use refusal::lay;
+ghost use mathlib.Core.Path.{_≡_};
 ghost use mathlib.Core.List.{[], _∷_, _++_};
-ghost use Prim.Native.Nat.{_+_, _/_, _%_, _≤_, _<_};
+ghost use Prim.Native.Nat.{ℕ, _+_, _/_, _%_, _≤_, _<_};
 ghost use lib.ListN.{length};
+ghost use Rattle.refusal.specs.Paper.{answer, counted, roomAfter};
+ghost use Rattle.refusal.specs.Numbers.{onPaper, laidPaper};
+ghost use Rattle.refusal.specs.Given.{Wrote};
 ghost use Rattle.label.specs.Text.{decimal};
-ghost use Rattle.label.specs.Given.{Wrote, Small};
-ghost use Rattle.division.specs.Answers.{sheetPaper};
-ghost use Rattle.refusal.specs.Numbers.{onPaper};
-ghost use Rattle.rows.specs.Program.{metres, frameWords, words, outputLine};
-ghost use Rattle.rows.specs.Given.{spaced, pair, Edge, FourEdges, Answered};
+ghost use Rattle.label.specs.Given.{Small};
+ghost use Rattle.catalogue.specs.Line.{readLine};
+ghost use Rattle.rows.specs.Row.{metres, frameWords, words, layRow};
+ghost use Rattle.rows.specs.Given.{spaced, pair, Short, AllShort};
 
 // Each of the functions that put something into room gives the place behind it.
 fn put_byte(b: u8, out: &mut [u8], at: usize) -> usize
@@ -22,19 +27,6 @@ fn put_byte(b: u8, out: &mut [u8], at: usize) -> usize
 {
     out[at] = b;
     at + 1
-}
-
-// Bytes as they are.
-pub(crate) fn put(bytes: &[u8], out: &mut [u8], at: usize) -> usize
-    requires { ⌜ at + length (now bytes) ≤ length (now out) ⌝ }
-    ensures { λ r. ⌜ Wrote (now (out .entry)) at (now (out .exit)) r (now (bytes .entry)) ⌝ }
-{
-    let mut i: usize = 0;
-    while i < bytes.len() {
-        out[at + i] = bytes[i];
-        i += 1;
-    }
-    at + i
 }
 
 // Two digits, and four.
@@ -114,7 +106,8 @@ fn put_spaced(n: u64, out: &mut [u8], at: usize) -> usize
 
 // An edge in whole metres, behind a space.
 fn put_metres(x: i64, out: &mut [u8], at: usize) -> usize
-    requires { ⌜ Edge x at (length (now out)) ⌝ }
+    requires { ⌜ Short x ⌝ }
+    requires { ⌜ at + 8 ≤ length (now out) ⌝ }
     ensures { λ r. ⌜ Wrote (now (out .entry)) at (now (out .exit)) r (32 ∷ metres x) ⌝ }
     ensures { λ r. ⌜ r ≤ at + 8 ⌝ }
 {
@@ -124,7 +117,8 @@ fn put_metres(x: i64, out: &mut [u8], at: usize) -> usize
 
 // West, east, south and north, each behind a space.
 fn put_edges(e: Edges, out: &mut [u8], at: usize) -> usize
-    requires { ⌜ FourEdges e at (length (now out)) ⌝ }
+    requires { ⌜ AllShort e ⌝ }
+    requires { ⌜ at + 32 ≤ length (now out) ⌝ }
     ensures { λ r. ⌜ Wrote (now (out .entry)) at (now (out .exit)) r (spaced (frameWords e)) ⌝ }
     ensures { λ r. ⌜ r ≤ at + 32 ⌝ }
 {
@@ -139,17 +133,18 @@ fn put_refusal(why: Refusal, out: &mut [u8], at: usize) -> usize
     ensures { λ r. ⌜ Wrote (now (out .entry)) at (now (out .exit)) r (spaced (words (onPaper why))) ⌝ }
     ensures { λ r. ⌜ r ≤ at + 19 ⌝ }
 {
-    let a = put(b" refused", out, at);
+    lay(b" refused", &mut out[at..]);
     let number = why.numbered().0;
-    put_spaced(number as u64, out, a)
+    put_spaced(number as u64, out, at + 8)
 }
 
 // The rest of a row: the sheet and its edges, or the refusal, each word behind a space.
-fn put_answer(found: Found, out: &mut [u8], at: usize) -> usize
-    requires { ⌜ Answered found at (length (now out)) ⌝ }
-    ensures { λ r. ⌜ Wrote (now (out .entry)) at (now (out .exit)) r (spaced (words (sheetPaper found))) ⌝ }
+fn put_answer(line: &[u8], out: &mut [u8], at: usize) -> usize
+    requires { ⌜ at + 40 ≤ length (now out) ⌝ }
+    ensures { λ r. ⌜ Wrote (now (out .entry)) at (now (out .exit)) r (spaced (words (readLine (now (line .entry))))) ⌝ }
     ensures { λ r. ⌜ r ≤ at + 40 ⌝ }
 {
+    let found = read_line(line);
     match found {
         Found::Refused(why) => put_refusal(why, out, at),
         Found::Sheet(n) => {
@@ -163,13 +158,17 @@ fn put_answer(found: Found, out: &mut [u8], at: usize) -> usize
     }
 }
 
-// The row of a line.
-pub(crate) fn row(line: &[u8], number: u64, out: &mut [u8], at: usize) -> usize
-    requires { ⌜ at + 64 ≤ length (now out) ⌝ }
-    ensures { λ r. ⌜ Wrote (now (out .entry)) at (now (out .exit)) r (outputLine number (now (line .entry))) ⌝ }
+// Lays the row of a line into lent room, of which it asks for as much as the longest row has; it has no more itself.
+pub fn row(line: &[u8], number: u64, room: &mut [u8]) -> Laid
+    ensures { λ r. ⌜ laidPaper r ≡ counted (layRow number (now (line .entry)) (length (now (room .entry)))) ⌝ }
+    ensures { λ r. ⌜ now (room .exit) ≡ roomAfter (layRow number (now (line .entry)) (length (now (room .entry)))) (now (room .entry)) ⌝ }
+    ensures { λ r. ⌜ ((n : ℕ) → laidPaper r ≡ answer n → n ≤ 64) ⌝ }
 {
-    let a = put_number(number, out, at);
-    let found = read_line(line);
-    let b = put_answer(found, out, a);
-    put_byte(b'\n', out, b)
+    if room.len() < 64 {
+        return Laid::Refused(Refusal::Room(64));
+    }
+    let a = put_number(number, room, 0);
+    let b = put_answer(line, room, a);
+    let end = put_byte(b'\n', room, b);
+    Laid::Items(end)
 }

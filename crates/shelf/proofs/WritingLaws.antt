@@ -20,7 +20,6 @@ use Rattle.division.specs.Words.{_≤?_}
 use Rattle.shelf.specs.Number.{groupsOf, numberBytes}
 use Rattle.shelf.specs.Kind.{Kind}
 use Rattle.shelf.specs.Writing.{gapsFrom, bytesIn, setIn, writeIn, lengthIn}
-use Rattle.shelf.specs.Given.{Writable}
 use Rattle.shelf.proofs.GroupLaws.{sized}
 use Rattle.shelf.proofs.NumberLaws.{length-number}
 use Rattle.shelf.proofs.KindLaws.{Works}
@@ -141,13 +140,13 @@ pub record Putting (kind : Kind) (s room₀ : List ℕ) (at₀ : ℕ) (room : Li
   pub fits : at + length (entryBytes least (drop i s)) ≤ length room
   pub rest : sets room₀ at₀ (entryBytes 0 s) ≡ sets room at (entryBytes least (drop i s))
 
-module _ (kind : Kind) (s room : List ℕ) (f : Writable kind s (length room)) (new : List ℕ) (r : ℕ) (e : r ≡ 0 + groupsOf (kind .begins (length s))) (w : new ≡ sets room 0 (numberBytes (kind .begins (length s)))) where
+module _ (kind : Kind) (s room : List ℕ) (f : (setIn kind s ≡ answer tt) × (length (bytesIn kind s) ≤ length room)) (new : List ℕ) (r : ℕ) (e : r ≡ 0 + groupsOf (kind .begins (length s))) (w : new ≡ sets room 0 (numberBytes (kind .begins (length s)))) where
   pub putting-first : Putting kind s new r new r 0 0
   putting-first = record {
     upto = omega arith;
-    rising = set-in (f .set) .rises;
+    rising = set-in (f .0) .rises;
     same = refl;
-    fits = rw w (omega (arith, f .enough, length-list kind s, length-sets room 0 (numberBytes (kind .begins (length s)))));
+    fits = rw w (omega (arith, f .1, length-list kind s, length-sets room 0 (numberBytes (kind .begins (length s)))));
     rest = refl;
   }
 
@@ -208,8 +207,8 @@ module _ (kind : Kind) (s room : List ℕ) (n : ℕ) (m : Measured kind s n) whe
   unfolding writeIn
   writes-short l = rw (m .set, ← m .long, lt-leb n (length room) l) (refl, refl)
 
-  pub writable : n ≤ length room → Writable kind s (length room)
-  writable l = record { set = m .set; enough = omega (arith, m .long) }
+  pub writable : n ≤ length room → (setIn kind s ≡ answer tt) × (length (bytesIn kind s) ≤ length room)
+  writable l = (m .set, omega (arith, m .long))
 
   pub writes-all : (new : List ℕ) → n ≤ length room → new ≡ sets room 0 (bytesIn kind s) → Writes kind s room new (Items n)
   unfolding writeIn

@@ -8,16 +8,9 @@ use Rattle.refusal.specs.Numbers.{onPaper}
 use Rattle.shelf.specs.declared.number.Next.{Next}
 use Rattle.shelf.specs.declared.number.Next.the-variants.{Number, Refused}
 use Rattle.shelf.specs.Number as n
-use Rattle.shelf.specs.Kind.{Kind}
-use Rattle.shelf.specs.Writing.{bytesIn, setIn}
 
 -- a number that was read at a place is what the definition reads there; it is below 2^28 and ends within the bytes
 abbrev pub IsNext : List ℕ → ℕ → Next → Type 0
 IsNext bytes at (Number value end) =
     (n.readNumber (drop at bytes) ≡ answer (record { value = value; rest = drop end bytes })) × (value < 2 ^ 28) × (end ≤ length bytes)
 IsNext bytes at (Refused why) = n.readNumber (drop at bytes) ≡ onPaper why
-
--- a set, and room for its list
-pub record Writable (kind : Kind) (numbers : List ℕ) (room : ℕ) : Type 0 where
-  pub set : setIn kind numbers ≡ answer tt
-  pub enough : length (bytesIn kind numbers) ≤ room

@@ -8,11 +8,10 @@ ghost use mathlib.Core.Path.{_≡_};
 ghost use Prim.Native.Nat.{_≤_};
 ghost use lib.ListN.{length};
 ghost use lib.Seq.{sets};
-ghost use Rattle.refusal.specs.Paper.{counted, roomAfter};
+ghost use Rattle.refusal.specs.Paper.{answer, counted, roomAfter};
 ghost use Rattle.refusal.specs.Numbers.{laidPaper};
-ghost use Rattle.shelf.specs.Writing.{listBytes, writeList, listLength};
+ghost use Rattle.shelf.specs.Writing.{setIn, listBytes, writeList, listLength};
 ghost use Rattle.shelf.specs.Kind.{ofSheets};
-ghost use Rattle.shelf.specs.Given.{Writable};
 
 // How many bytes the list of so few sheets has, or the refusal of the first faulty place.
 fn measured(sheets: &[u32]) -> Laid
@@ -49,7 +48,8 @@ pub fn list_length(sheets: &[u32]) -> Laid
 
 // Writes the list of a set, for which there is room.
 fn put_list(sheets: &[u32], room: &mut [u8])
-    requires { ⌜ Writable ofSheets (now sheets) (length (now room)) ⌝ }
+    requires { ⌜ setIn ofSheets (now sheets) ≡ answer tt ⌝ }
+    requires { ⌜ length (listBytes (now sheets)) ≤ length (now room) ⌝ }
     ensures { λ _. ⌜ now (room .exit) ≡ sets (now (room .entry)) 0 (listBytes (now (sheets .entry))) ⌝ }
 {
     let mut at = put_number(sheets.len() as u32, room, 0);

@@ -23,7 +23,7 @@ size : (c : tie.After-millimetres) → c .millimetres .result ≡ millimetres (w
 size c = rw (c .before .width .ensures) at (c .millimetres .ensures)
 
 div-result : tie.Need-div-result
-div-result c = rw (size (c .before)) (some-width (c .before .before .before .pre .scale))
+div-result c = rw (size (c .before)) (some-width (c .before .before .before .pre .0))
 
 returns : tie.Need-returns
 returns c = rw (size (c .before), c .distance .ensures, back (c .before .before .before .fits .e))
@@ -31,7 +31,7 @@ returns c = rw (size (c .before), c .distance .ensures, back (c .before .before 
 cast-result : tie.Need-cast-result
 cast-result c =
     let a = c .before .before .before in
-    omega (arith, returns c, column-in (a .pre .scale) (east (a .args .e) (a .pre .west) (a .pre .east)), rules (a .pre .scale) .few-columns)
+    omega (arith, returns c, column-in (a .pre .0) (east (a .args .e) (a .pre .1 .0) (a .pre .1 .1)), rules (a .pre .0) .few-columns)
 
 pub column-at-spec : {M : Type 1} → statement M
 column-at-spec =

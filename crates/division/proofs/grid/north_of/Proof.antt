@@ -21,7 +21,7 @@ size : (c : tie.After-millimetres) → c .millimetres .result ≡ millimetres (h
 size c = rw (c .before .height .ensures) at (c .millimetres .ensures)
 
 near : (c : tie.After-millimetres) → c .before .before .args .row * c .millimetres .result ≤ 600_000_000
-near c = let e = c .before .before .pre in rw (size c) (high-in (e .scale) (c .before .before .args .row) (e .in-rows))
+near c = let e = c .before .before .pre in rw (size c) (high-in (e .0) (c .before .before .args .row) (e .1))
 
 cast-y : tie.Need-cast-y
 cast-y c = search needs

@@ -19,13 +19,13 @@ millimetres-requires c κs = search needs
 distance-requires : tie.Need-distance-requires
 distance-requires c κs =
     let a = c .before .before in
-    rw (back (a .fits .n)) (record { plain = below 4_570_000_000 0 (a .args .n) (omega arith) (a .pre .south); rises = a .pre .north })
+    rw (back (a .fits .n)) (below 4_570_000_000 0 (a .args .n) (omega arith) (a .pre .1 .0), a .pre .1 .1)
 
 size : (c : tie.After-millimetres) → c .millimetres .result ≡ millimetres (height (c .before .before .args .s))
 size c = rw (c .before .height .ensures) at (c .millimetres .ensures)
 
 div-result : tie.Need-div-result
-div-result c = rw (size (c .before)) (some-height (c .before .before .before .pre .scale))
+div-result c = rw (size (c .before)) (some-height (c .before .before .before .pre .0))
 
 returns : tie.Need-returns
 returns c = rw (size (c .before), c .distance .ensures, back (c .before .before .before .fits .n))
@@ -33,7 +33,7 @@ returns c = rw (size (c .before), c .distance .ensures, back (c .before .before 
 cast-result : tie.Need-cast-result
 cast-result c =
     let a = c .before .before .before in
-    omega (arith, returns c, row-in (a .pre .scale) (north (a .args .n) (a .pre .south) (a .pre .north)), rules (a .pre .scale) .few-rows)
+    omega (arith, returns c, row-in (a .pre .0) (north (a .args .n) (a .pre .1 .0) (a .pre .1 .1)), rules (a .pre .0) .few-rows)
 
 pub row-at-spec : {M : Type 1} → statement M
 row-at-spec =

@@ -21,7 +21,7 @@ size : (c : tie.After-millimetres) → c .millimetres .result ≡ millimetres (w
 size c = rw (c .before .width .ensures) at (c .millimetres .ensures)
 
 near : (c : tie.After-millimetres) → c .before .before .args .column * c .millimetres .result ≤ 600_000_000
-near c = let e = c .before .before .pre in rw (size c) (wide-in (e .scale) (c .before .before .args .column) (e .in-columns))
+near c = let e = c .before .before .pre in rw (size c) (wide-in (e .0) (c .before .before .args .column) (e .1))
 
 cast-x : tie.Need-cast-x
 cast-x c = search needs

@@ -11,10 +11,10 @@ enum-known-above : tie.Need-enum-known-above
 enum-known-above c = search needs
 
 mul-t6 : tie.Need-mul-t6
-mul-t6 c = let u = c .before .above .given in omega (arith, c .before .before .before .pre .few (u .0 .0) (u .1))
+mul-t6 c = let u = c .before .above .given in omega (arith, c .before .before .before .pre (u .0 .0) (u .1))
 
 add-t7 : tie.Need-add-t7
-add-t7 c = let u = c .before .above .given in omega (arith, c .before .before .before .pre .few (u .0 .0) (u .1))
+add-t7 c = let u = c .before .above .given in omega (arith, c .before .before .before .pre (u .0 .0) (u .1))
 
 returns : tie.Need-returns
 returns c = search needs

@@ -29,7 +29,7 @@ walk-requires c κs =
     let a = c .before in
     let n = a .before .before .before .args .sheet in
     let l = located n (there a) in
-    rw (l .1) (record { on = on-grid n (l .0) })
+    rw (l .1) (on-grid n (l .0))
 
 returns : tie.Need-returns
 unfolding step

@@ -6,7 +6,7 @@ use borrow.Author.Needs.{needs}
 use borrow.Fn.Kinds.{In}
 use borrow.Fn.PlainCycle.{Measures, is, falls, and}
 use Rattle.rows.specs.Given.{pair}
-use Rattle.label.proofs.WroteLaws.{then}
+use Rattle.refusal.proofs.WroteLaws.{then}
 use Rattle.rows.proofs.PairLaws.{Behind, decimal-four}
 use Rattle.rows.proofs.row.put_number.Reads as put-number
 use Rattle.rows.proofs.row.put_number.Kinds as put-number-kinds

@@ -5,12 +5,16 @@ use native.Mathlib.Omega.{arith}
 use Rattle.refusal.specs.Paper.{answer}
 use Rattle.division.specs.Sheet.{isSheet, cornersOf}
 use Rattle.division.specs.Answers.{sheetPaper, cornersPaper}
-use Rattle.label.proofs.WroteLaws.{then}
+use Rattle.refusal.proofs.WroteLaws.{then}
+use Rattle.catalogue.proofs.LineTheorems.{line-sheet}
 use Rattle.division.proofs.MetreLaws.{corners-are}
 use Rattle.rows.proofs.WordLaws.{sheet-words, sheet-most, framed, not-refused}
 use borrow.Author.Needs.{needs}
 use Rattle.rows.proofs.row.put_answer.Statement.{statement}
 use Rattle.rows.proofs.row.put_answer.Tie as tie
+
+read-line-requires : tie.Need-read-line-requires
+read-line-requires c κs = search needs
 
 enum-known-found : tie.Need-enum-known-found
 enum-known-found c = search needs
@@ -24,12 +28,17 @@ enum-known-found-2 c = search needs
 cast-put-spaced : tie.Need-cast-put-spaced
 cast-put-spaced c = search needs
 
+abbrev start : tie.After-found2 → tie.Start
+start c = c .before .before .before .before .before
+
 -- what is found is a sheet
 sheet : (c : tie.After-found2) → isSheet (c .found2 .given .0 .0) ≡ true
-sheet c = c .before .before .before .pre .sheet (c .found2 .given .0 .0) (ap sheetPaper (c .found2 .given .1))
+sheet c =
+    let r = c .before .before in
+    line-sheet (start c .args .line .now) (c .found2 .given .0 .0) (sym (r .read-line .ensures) ∙ ap sheetPaper (c .found2 .given .1))
 
 put-spaced-requires : tie.Need-put-spaced-requires
-put-spaced-requires c κs = omega (arith, c .before .before .before .before .before .pre .fits, sheet-most (c .before .before .found2 .given .0 .0) (sheet (c .before .before)))
+put-spaced-requires c κs = let f = c .before .before in omega (arith, start f .pre, sheet-most (f .found2 .given .0 .0) (sheet f))
 
 corners-of-requires : tie.Need-corners-of-requires
 corners-of-requires c κs = search needs
@@ -47,7 +56,7 @@ put-edges-requires c κs =
     let s = k .before .before .before .before .before in
     let f = s .before .before .before in
     let n = f .found2 .given .0 .0 in
-    framed n (sheet f) (edges k) (omega (arith, f .before .before .before .pre .fits, s .put-spaced .ensures .end, s .put-spaced .kept .1 .0, sheet-most n (sheet f)))
+    (framed n (sheet f) (edges k), omega (arith, start f .pre, s .put-spaced .ensures .end, s .put-spaced .kept .1 .0, sheet-most n (sheet f)))
 
 enum-told : tie.Need-enum-told
 enum-told c = search needs
@@ -59,7 +68,7 @@ returns : tie.Need-returns
 returns c =
     let f = c .before .before .before .before .before in
     let r = c .before .before .put-refusal .ensures in
-    (rw (f .found .given .1) (r .0), omega (arith, r .1))
+    (rw (← f .before .before .read-line .ensures, f .found .given .1) (r .0), omega (arith, r .1))
 
 same-length-2 : tie.Need-same-length-2
 same-length-2 c = search needs
@@ -71,7 +80,7 @@ returns-2 c =
     let f = s .before .before .before in
     let n = f .found2 .given .0 .0 in
     let e = c .before .before .put-edges .ensures in (
-      rw (f .found2 .given .1, sheet-words n) (then (s .put-spaced .ensures) (rw (corners-are n (sheet f) (edges k)) at (e .0))),
+      rw (← f .before .before .read-line .ensures, f .found2 .given .1, sheet-words n) (then (s .put-spaced .ensures) (rw (corners-are n (sheet f) (edges k)) at (e .0))),
       omega (arith, e .1, s .put-spaced .ensures .end, sheet-most n (sheet f)),
     )
 
@@ -88,6 +97,7 @@ pub put-answer-spec : {M : Type 1} → statement M
 put-answer-spec =
     tie.close
     (tie.spec
+    read-line-requires
     enum-known-found
     put-refusal-requires
     enum-known-found-2

@@ -1,6 +1,6 @@
 -- Four edges, one behind the other. Assumes nothing.
 use native.Mathlib.Omega.{arith}
-use Rattle.label.proofs.WroteLaws.{then}
+use Rattle.refusal.proofs.WroteLaws.{then}
 use Rattle.rows.proofs.WordLaws.{frame-words, short-back, short-again}
 use borrow.Author.Needs.{needs}
 use Rattle.rows.proofs.row.put_edges.Statement.{statement}
@@ -13,17 +13,14 @@ put-metres-requires-2 : tie.Need-put-metres-requires-2
 put-metres-requires-2 c κs =
     let w = c .before .before .before .before in
     let a = w .before .before .before .before in
-    record { short = search short-again; fits = omega (arith, a .pre .fits, w .put-metres .ensures .1, w .put-metres .kept .1 .0) }
+    (search short-again, omega (arith, a .pre .1, w .put-metres .ensures .1, w .put-metres .kept .1 .0))
 
 put-metres-requires-3 : tie.Need-put-metres-requires-3
 put-metres-requires-3 c κs =
     let v = c .before .before .before .before in
     let w = v .before .before .before .before .before in
     let a = w .before .before .before .before in
-    record {
-      short = search short-again;
-      fits = omega (arith, a .pre .fits, w .put-metres .ensures .1, w .put-metres .kept .1 .0, v .put-metres2 .ensures .1, v .put-metres2 .kept .1 .0);
-    }
+    (search short-again, omega (arith, a .pre .1, w .put-metres .ensures .1, w .put-metres .kept .1 .0, v .put-metres2 .ensures .1, v .put-metres2 .kept .1 .0))
 
 put-metres-requires-4 : tie.Need-put-metres-requires-4
 put-metres-requires-4 c κs =
@@ -31,10 +28,7 @@ put-metres-requires-4 c κs =
     let v = u .before .before .before .before .before in
     let w = v .before .before .before .before .before in
     let a = w .before .before .before .before in
-    record {
-      short = search short-again;
-      fits = omega (arith, a .pre .fits, w .put-metres .ensures .1, w .put-metres .kept .1 .0, v .put-metres2 .ensures .1, v .put-metres2 .kept .1 .0, u .put-metres3 .ensures .1, u .put-metres3 .kept .1 .0);
-    }
+    (search short-again, omega (arith, a .pre .1, w .put-metres .ensures .1, w .put-metres .kept .1 .0, v .put-metres2 .ensures .1, v .put-metres2 .kept .1 .0, u .put-metres3 .ensures .1, u .put-metres3 .kept .1 .0))
 
 same-length : tie.Need-same-length
 same-length c = search needs
@@ -47,7 +41,7 @@ returns c =
     let w = v .before .before .before .before .before in
     let a = w .before .before .before .before in (
       rw (frame-words (a .args .e))
-          (simp (short-back (a .pre .west), short-back (a .pre .east), short-back (a .pre .south), short-back (a .pre .north)) at
+          (simp (short-back (a .pre .0 .0), short-back (a .pre .0 .1), short-back (a .pre .0 .2), short-back (a .pre .0 .3)) at
           (then (w .put-metres .ensures .0) (then (v .put-metres2 .ensures .0) (then (u .put-metres3 .ensures .0) (x .put-metres4 .ensures .0))))),
       omega (arith, w .put-metres .ensures .1, v .put-metres2 .ensures .1, u .put-metres3 .ensures .1, x .put-metres4 .ensures .1),
     )

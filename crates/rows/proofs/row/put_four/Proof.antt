@@ -1,5 +1,5 @@
 -- Two pairs, one behind the other. Assumes nothing.
-use Rattle.label.proofs.WroteLaws.{then}
+use Rattle.refusal.proofs.WroteLaws.{then}
 use borrow.Author.Needs.{needs}
 use Rattle.rows.proofs.row.put_four.Statement.{statement}
 use Rattle.rows.proofs.row.put_four.Tie as tie

@@ -9,11 +9,11 @@ use Rattle.rows.proofs.row.put_metres.Tie as tie
 cast-mm : tie.Need-cast-mm
 cast-mm c =
     let a = c .before in
-    let p = from-pos (a .args .x) (a .pre .short .plain) .0 in
+    let p = from-pos (a .args .x) (a .pre .0 .plain) .0 in
     rw (back (a .fits .x), p .is) (tt, record { fits = omega (arith, rw (p .is) at (a .fits .x .sfits)) })
 
 put-spaced-requires : tie.Need-put-spaced-requires
-put-spaced-requires c κs = let a = c .before .before in omega (arith, a .pre .fits, metres-most (short-again (a .pre .short)))
+put-spaced-requires c κs = let a = c .before .before in omega (arith, a .pre .1, metres-most (short-again (a .pre .0)))
 
 same-length : tie.Need-same-length
 same-length c = search needs
@@ -22,7 +22,7 @@ returns : tie.Need-returns
 returns c =
     let a = c .before .before .before .before .before in
     let w = c .before .before .put-spaced .ensures in
-    (rw (short-back (a .pre .short)) at w, omega (arith, w .end, metres-most (short-again (a .pre .short))))
+    (rw (short-back (a .pre .0)) at w, omega (arith, w .end, metres-most (short-again (a .pre .0))))
 
 pub put-metres-spec : {M : Type 1} → statement M
 put-metres-spec = tie.close (tie.spec cast-mm put-spaced-requires same-length returns)

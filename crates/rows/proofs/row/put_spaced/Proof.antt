@@ -1,5 +1,5 @@
 -- The space, and the number behind it. Assumes nothing.
-use Rattle.label.proofs.WroteLaws.{then}
+use Rattle.refusal.proofs.WroteLaws.{then}
 use borrow.Author.Needs.{needs}
 use Rattle.rows.proofs.row.put_spaced.Statement.{statement}
 use Rattle.rows.proofs.row.put_spaced.Tie as tie

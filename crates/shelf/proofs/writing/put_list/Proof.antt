@@ -16,10 +16,10 @@ abbrev μ-loop : tie.MeasureT-loop
 μ-loop sheets room₀ at₀ next₀ i₀ room at next i = length sheets - i
 
 cast-put-number : tie.Need-cast-put-number Inv-loop μ-loop
-cast-put-number c = omega (arith, set-in (c .before .before .pre .set) .few)
+cast-put-number c = omega (arith, set-in (c .before .before .pre .0) .few)
 
 put-number-requires : tie.Need-put-number-requires Inv-loop μ-loop
-put-number-requires c κs = let a = c .before .before .before in omega (arith, a .pre .enough, length-list ofSheets (a .args .sheets .now))
+put-number-requires c κs = let a = c .before .before .before in omega (arith, a .pre .1, length-list ofSheets (a .args .sheets .now))
 
 loop-holds : tie.Need-loop-holds Inv-loop μ-loop
 loop-holds c =
