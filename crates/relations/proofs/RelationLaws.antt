@@ -18,7 +18,6 @@ use Rattle.division.specs.Words.{_≤?_, _=?_, _≤ᶻ_, _<ᶻ_, between}
 use Rattle.division.specs.Table.{rows, columns, sheets, first, parentScale, parts}
 use Rattle.division.specs.Sheet.{isSheet, scaleOf, indexOf, partIndex, sheetOf, spotOf, locate, sheetOn}
 use Rattle.relations.specs.Relations.{moved, stays, isPart}
-use Rattle.relations.specs.Given.{Part}
 use Rattle.division.specs.Given.{IsScale, OnGrid}
 use Rattle.division.proofs.TestLaws.{both, Plain, from-pos, le-shift, lt-shift}
 use Rattle.division.proofs.TableLaws.{rules, is-scale}
@@ -112,8 +111,8 @@ module _ {s n number : ℕ} (c : Child s n number) where
       let m : (indexOf n + 1) * parts s ≤ sheets (parentScale s) * parts s = mul-le-mul-right (parts s) (omega (arith, child-in)) in
       omega (arith, sheets-family (c .scale) child-deep)
 
-  pub child-part : Part (parts s) (indexOf n) number
-  child-part = record { one = c .one; last = c .last; few = omega (arith, room, rules (c .scale) .few) }
+  pub child-part : (1 ≤ number) × ((number ≤ parts s) × ((indexOf n + 1) * parts s ≤ 6_000_000))
+  child-part = (c .one, (c .last, omega (arith, room, rules (c .scale) .few)))
 
   pub child-few : partIndex (parts s) (indexOf n) number < sheets s
   child-few = omega (arith, room, c .one, c .last)

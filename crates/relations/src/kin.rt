@@ -14,12 +14,12 @@ use division::table::is_scale;
 use refusal::Refusal;
 ghost use mathlib.Core.Path.{_≡_};
 ghost use mathlib.Core.Bool.{true};
+ghost use Prim.Native.Nat.{_+_, _*_, _≤_};
 ghost use lib.IntN.{pos, natAbs, _-ℤ_};
 ghost use Rattle.division.specs.Sheet.{partIndex};
 ghost use Rattle.division.specs.Answers.{sheetPaper};
 ghost use Rattle.division.specs.Given.{OnGrid};
 ghost use Rattle.relations.specs.Answers.{offsetPaper};
-ghost use Rattle.relations.specs.Given.{Part};
 ghost use Rattle.relations.specs.Relations.{parent, child, isPart, moved, stays, walk, step, apart, offsetFrom, offset, orNone, neighbourRow, neighbours};
 
 // The sheet that a sheet is a part of.
@@ -51,7 +51,9 @@ fn is_part(s: u32, parent: u32, number: u32) -> bool
 
 // The index of part `number` of the parent at index `up`.
 fn part_index(parts: u32, up: u32, number: u32) -> u32
-    requires { ⌜ Part parts up number ⌝ }
+    requires { ⌜ 1 ≤ number ⌝ }
+    requires { ⌜ number ≤ parts ⌝ }
+    requires { ⌜ (up + 1) * parts ≤ 6_000_000 ⌝ }
     ensures { λ r. ⌜ r ≡ partIndex parts up number ⌝ }
 {
     up * parts + (number - 1)
