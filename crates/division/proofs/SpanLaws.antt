@@ -10,7 +10,7 @@ use lib.ListN.{length}
 use Rattle.division.specs.declared.cover.Span.{Span}
 use Rattle.division.specs.Words.{_<?_, from, keep}
 use Rattle.division.specs.Cover.{spanned}
-use Rattle.division.specs.Given.{Stretch, spanOf}
+use Rattle.division.specs.Given.{spanOf}
 use Rattle.division.proofs.RangeLaws.{length-from, getD-from, keep-range}
 use Rattle.division.proofs.MadeLaws.{quot}
 
@@ -33,32 +33,36 @@ span-is {r = r} s = ap spanned (s .listed) ∙ (λ i. record { first = first i; 
 abbrev pub meets : ℕ → ℕ → ℕ → ℕ → Bool
 meets a b size c = c * size <? b && a <? (c + 1) * size
 
+-- a stretch from a up to b of a line that is cut into cells of a size
+abbrev pub Stretch : ℕ → ℕ → ℕ → Type 0
+Stretch a b size = (0 < size) × ((a < b) × (b ≤ 600_000_000))
+
 module _ {a b size : ℕ} (t : Stretch a b size) where
   pub ordered : a / size ≤ (b - 1) / size
-  ordered = le-div-iff-mul-le (t .some) .1 (omega (arith, div-add-mod' a size, t .rises))
+  ordered = le-div-iff-mul-le (t .0) .1 (omega (arith, div-add-mod' a size, t .1 .0))
 
   pub small : (b - 1) / size < 600_000_000
-  small = omega (arith, div-le-self (b - 1) size, t .short, t .rises)
+  small = omega (arith, div-le-self (b - 1) size, t .1 .1, t .1 .0)
 
   -- so a test for the cells that it meets keeps its span of the line
   module _ (count : ℕ) (full : count * size ≡ 600_000_000) (f : ℕ → Bool) (tests : (c : ℕ) → c < count → f c ≡ meets a b size c) where
     reach : (b - 1) / size < count
-    reach = quot (t .some) (omega (arith, t .rises, t .short))
+    reach = quot (t .0) (omega (arith, t .1 .0, t .1 .1))
 
     outside : (c : ℕ) → 0 ≤ c → c < 0 + a / size → f c ≡ false
     outside c z l =
-        let e : (c + 1) * size ≤ a = le-div-iff-mul-le (t .some) .0 (omega arith) in
+        let e : (c + 1) * size ≤ a = le-div-iff-mul-le (t .0) .0 (omega arith) in
         tests c (omega (arith, reach, ordered)) ∙ rw (le-ltb a ((c + 1) * size) e) (and-false (c * size <? b))
 
     met : (c : ℕ) → 0 + a / size ≤ c → c < 0 + a / size + spanOf a b size .count → f c ≡ true
     met c h l =
-        let x : c * size ≤ b - 1 = le-div-iff-mul-le (t .some) .0 (omega (arith, ordered)) in
-        let y : a < (c + 1) * size = div-lt-iff-lt-mul (t .some) .0 (omega arith) in
-        tests c (omega (arith, reach, ordered)) ∙ rw (lt-ltb (c * size) b (omega (arith, t .rises)), lt-ltb a ((c + 1) * size) y)
+        let x : c * size ≤ b - 1 = le-div-iff-mul-le (t .0) .0 (omega (arith, ordered)) in
+        let y : a < (c + 1) * size = div-lt-iff-lt-mul (t .0) .0 (omega arith) in
+        tests c (omega (arith, reach, ordered)) ∙ rw (lt-ltb (c * size) b (omega (arith, t .1 .0)), lt-ltb a ((c + 1) * size) y)
 
     past : (c : ℕ) → 0 + a / size + spanOf a b size .count ≤ c → c < count → f c ≡ false
     past c h l =
-        let e : b - 1 < c * size = div-lt-iff-lt-mul (t .some) .0 (omega (arith, ordered)) in
+        let e : b - 1 < c * size = div-lt-iff-lt-mul (t .0) .0 (omega (arith, ordered)) in
         tests c l ∙ rw (le-ltb (c * size) b (omega arith))
 
     pub span-run : Spans (keep f (from 0 count)) count (spanOf a b size)

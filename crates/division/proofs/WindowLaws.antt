@@ -12,10 +12,10 @@ use Rattle.division.specs.Words.{_≤ᶻ_, _<ᶻ_, _<?_}
 use Rattle.division.specs.Table.{width, height, rows, columns}
 use Rattle.division.specs.Grid.{millimetres, area, westOf, northOf}
 use Rattle.division.specs.Cover.{columnsIn, rowsIn}
-use Rattle.division.specs.Given.{Seen, Stretch, spanOf}
+use Rattle.division.specs.Given.{Seen, spanOf}
 use Rattle.division.proofs.TestLaws.{Ahead, both, from-pos, after-pos, pos-minus, same-leb}
 use Rattle.division.proofs.GridLaws.{some-width, some-height, all-columns, all-rows, high-in, north-is}
-use Rattle.division.proofs.SpanLaws.{Spans, meets, span-run}
+use Rattle.division.proofs.SpanLaws.{Spans, meets, Stretch, span-run}
 
 -- the edges of a window in the area, as plain numbers
 record Bounds (w : Edges) : Type 0 where
@@ -87,13 +87,13 @@ module _ {s : ℕ} {w : Edges} (h : Seen s w) where
   across =
       let b = bounds h in
       rw (b .is, pos-minus (b .west) 200_000_000 (b .west-in), pos-minus (b .east) 200_000_000 (omega (arith, b .west-in, b .wide)))
-      (record { some = some-width (h .scale); rises = omega (arith, b .west-in, b .wide); short = omega (arith, b .east-in) })
+      (some-width (h .scale), (omega (arith, b .west-in, b .wide), omega (arith, b .east-in)))
 
   pub down : Stretch (natAbs (area .north -ℤ w .north)) (natAbs (area .north -ℤ w .south)) (millimetres (height s))
   down =
       let b = bounds h in
       rw (b .is, pos-minus 5_170_000_000 (b .north) (b .north-in), pos-minus 5_170_000_000 (b .south) (omega (arith, b .north-in, b .high)))
-      (record { some = some-height (h .scale); rises = omega (arith, b .north-in, b .high); short = omega (arith, b .south-in) })
+      (some-height (h .scale), (omega (arith, b .north-in, b .high), omega (arith, b .south-in)))
 
   pub columns-run : Spans (columnsIn s w) (columns s) (spanOf (natAbs (w .west -ℤ area .west)) (natAbs (w .east -ℤ area .west)) (millimetres (width s)))
   unfolding columnsIn

@@ -38,12 +38,7 @@ pub record PartPlace (k : ℕ) (up : Place) (number : ℕ) : Type 0 where
   pub rows : (up .row + 1) * k ≤ 3_000
   pub columns : (up .column + 1) * k ≤ 2_000
 
--- a stretch from a up to b of a line that is cut into cells of a size, and the cells that it meets
-pub record Stretch (a b size : ℕ) : Type 0 where
-  pub some : 0 < size
-  pub rises : a < b
-  pub short : b ≤ 600_000_000
-
+-- the cells of a size that the stretch from a up to b of a line meets
 abbrev pub spanOf : ℕ → ℕ → ℕ → Span
 spanOf a b size = record { first = a / size; count = (b - 1) / size - a / size + 1 }
 

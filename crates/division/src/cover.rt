@@ -13,6 +13,7 @@ use crate::table::is_scale;
 use refusal::Laid;
 use refusal::Refusal;
 ghost use mathlib.Core.Path.{_≡_};
+ghost use Prim.Native.Nat.{_≤_, _<_};
 ghost use lib.ListN.{length};
 ghost use lib.Seq.{sets};
 ghost use Rattle.refusal.specs.Paper.{counted, roomAfter};
@@ -22,7 +23,7 @@ ghost use Rattle.division.specs.Grid.{area, within};
 ghost use Rattle.division.specs.Sheet.{sheetOf};
 ghost use Rattle.division.specs.Cover.{isWindow, columnsIn, rowsIn, block, spanned, blockIn, cover};
 ghost use Rattle.division.specs.Answers.{blockPaper};
-ghost use Rattle.division.specs.Given.{OnGrid, Stretch, spanOf, Seen, BlockRoom};
+ghost use Rattle.division.specs.Given.{OnGrid, spanOf, Seen, BlockRoom};
 
 // Rows or columns that follow one another.
 pub struct Span {
@@ -56,7 +57,9 @@ fn in_area(w: Edges) -> bool
 
 // The cells of a size that the stretch from a up to b meets.
 fn span_of(a: u64, b: u64, size: u64) -> Span
-    requires { ⌜ Stretch a b size ⌝ }
+    requires { ⌜ 0 < size ⌝ }
+    requires { ⌜ a < b ⌝ }
+    requires { ⌜ b ≤ 600_000_000 ⌝ }
     ensures { λ r. ⌜ r ≡ spanOf a b size ⌝ }
 {
     let first = a / size;
