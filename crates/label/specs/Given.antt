@@ -55,7 +55,7 @@ abbrev pub reckonBelow : ℕ → ℕ → Reckoned → Reckoned
 reckonBelow index each (At up) = At (index + each * up)
 reckonBelow index each Out = Out
 
--- ---- writing
+-- ---- writing: for crates/labelling and crates/rows
 
 -- a number below so many, and room for so many bytes
 pub record Small (most v size at room : ℕ) : Type 0 where

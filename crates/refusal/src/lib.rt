@@ -1,5 +1,5 @@
-// The refusals of document 01, "Numbers of refusal". Every question of the box gets its answer or one of these seventeen. What is laid into
-// lent room goes by `lay`.
+// The refusals of document 01, "Numbers of refusal". Every question of the box gets its answer or one of these seventeen. And
+// `lay`, for bytes that are there already and go into lent room.
 ghost use mathlib.Core.Path.{_≡_};
 ghost use lib.ListN.{length};
 ghost use Rattle.refusal.specs.Paper.{laid, counted, roomAfter};

@@ -24,6 +24,6 @@ words (refused number value) = text "refused" ∷ decimal number ∷ []
 unfoldable pub outputLine : ℕ → List ℕ → List ℕ
 outputLine number line = join (code " ") (decimal number ∷ words (readLine line)) ++ (code "\n" ∷ [])
 
--- a row is laid into room for the longest, 64 bytes, however long it is itself
+-- a row asks for 64 bytes of room, which are enough for any, however long it is itself
 abbrev pub layRow : ℕ → List ℕ → ℕ → Paper (List ℕ)
 layRow number line room = roomFor 64 room >> answer (outputLine number line)

@@ -158,7 +158,7 @@ fn put_answer(line: &[u8], out: &mut [u8], at: usize) -> usize
     }
 }
 
-// Lays the row of a line into lent room, of which it asks for as much as the longest row has; it has no more itself.
+// Lays the row of a line into lent room, of which it asks for 64 bytes: enough for any row, and it has no more itself.
 pub fn row(line: &[u8], number: u64, room: &mut [u8]) -> Laid
     ensures { λ r. ⌜ laidPaper r ≡ counted (layRow number (now (line .entry)) (length (now (room .entry)))) ⌝ }
     ensures { λ r. ⌜ now (room .exit) ≡ roomAfter (layRow number (now (line .entry)) (length (now (room .entry)))) (now (room .entry)) ⌝ }

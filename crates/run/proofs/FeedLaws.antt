@@ -10,7 +10,7 @@ use native.Mathlib.Omega.{arith}
 use borrow.Author.Tests.{eqb-true, eqb-false, le-leb}
 use lib.Dec.{eqb, leb}
 use lib.ListN.{length, getD, take, drop, length-append, length-take, length-drop}
-use lib.Seq.{take-at, drop-append-add, drop-drop, length-take-le, take-all}
+use lib.Seq.{take-at, drop-append-add, drop-drop, length-take-le}
 use Rattle.refusal.specs.declared.Refusal.{Refusal}
 use Rattle.refusal.specs.Paper.{answer, isAnswer, counted, roomAfter}
 use Rattle.refusal.specs.Numbers.{onPaper}
@@ -129,7 +129,7 @@ pub output-one : (n : ℕ) (line : List ℕ) → outputFrom n (line ∷ []) ≡ 
 unfolding outputFrom
 output-one n line = append-nil (outputLine n line)
 
--- a row, where there is room for the longest from a place on
+-- a row, where there is room for any from a place on
 module _ (d : List ℕ) (at : ℕ) (line : List ℕ) (number : ℕ) (h : at + 64 ≤ length d) where
   abbrev lent : List ℕ
   lent = take (length d - at) (drop at d)
@@ -147,10 +147,6 @@ module _ (d : List ℕ) (at : ℕ) (line : List ℕ) (number : ℕ) (h : at + 64
   row-fits why e =
       let z : true ≡ false = sym (ap isAnswer (rw roomy at e)) ∙ no-answer ℕ why in
       let y : _≡_ {A = ℕ} 0 1 = cc in omega arith
-
--- what is left of a block, as the code lends it
-pub rest-is : (block : List ℕ) (a : ℕ) → take (length block - a) (drop a block) ≡ drop a block
-rest-is block a = take-all (length block - a) (drop a block) (omega (arith, length-drop a block))
 
 -- the next of a list of lines
 take-next : (i : ℕ) (l : List (List ℕ)) {x : List ℕ} {xs : List (List ℕ)} → drop i l ≡ x ∷ xs → (take (i + 1) l ≡ take i l ++ (x ∷ [])) × (drop (i + 1) l ≡ xs)

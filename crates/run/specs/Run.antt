@@ -19,12 +19,12 @@ state from end number written wants over = record { from = from; end = end; numb
 abbrev pub start : State
 start = state 0 0 1 0 true false
 
--- there is room to keep 66 bytes of a line and read one more, room for the longest row, and a number for every line that the buffer can
+-- there is room to keep 66 bytes of a line and read one more, room for any row, and a number for every line that the buffer can
 -- hold; where not, the run is over
 abbrev pub goesOn : ℕ → ℕ → ℕ → Bool
 goesOn size room number = (67 ≤? size && 64 ≤? room) && number ≤? 2 ^ 64 - 1 - size
 
--- of some bytes how many lines are done, those that a line feed ends as long as there is room for the longest row, 64 bytes; their rows;
+-- of some bytes how many lines are done, those that a line feed ends as many as find room with 64 bytes for each; their rows;
 -- and what is left behind them
 abbrev pub doneIn : ℕ → List ℕ → ℕ
 doneIn room bytes = min (room / 64) (lineFeeds bytes)

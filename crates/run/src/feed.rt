@@ -15,7 +15,7 @@ pub struct Fed {
     pub lines: usize,
 }
 
-// The row of a line, where there is room for the longest. Gives the place behind it.
+// The row of a line, where there is room for any. Gives the place behind it.
 pub(crate) fn put_row(line: &[u8], number: u64, out: &mut [u8], at: usize) -> usize
     requires { ⌜ at + 64 ≤ length (now out) ⌝ }
     ensures { λ r. ⌜ Wrote (now (out .entry)) at (now (out .exit)) r (outputLine number (now (line .entry))) ⌝ }
@@ -28,7 +28,7 @@ pub(crate) fn put_row(line: &[u8], number: u64, out: &mut [u8], at: usize) -> us
     }
 }
 
-// The rows of the lines of a block that a line feed ends, as many as the room has for sure.
+// The rows of the lines of a block that a line feed ends, as many as find room with 64 bytes for each.
 pub(crate) fn feed(block: &[u8], number: u64, out: &mut [u8]) -> Fed
     requires { ⌜ number + length (now block) < 2 ^ 64 ⌝ }
     ensures { λ r. ⌜ IsFed (now (block .entry)) number (now (out .entry)) (now (out .exit)) r ⌝ }

@@ -1,4 +1,4 @@
--- There is room for the longest row, so the row is laid and not refused. Assumes nothing.
+-- There is room for any row, so the row is laid and not refused. Assumes nothing.
 use mathlib.Core.Path.{sym, ap, _∙_}
 use Prim.Native.Nat.{_≤_}
 use native.Mathlib.Omega.{arith}
