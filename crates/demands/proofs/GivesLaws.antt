@@ -5,14 +5,17 @@ use mathlib.Core.List.{List, [], _∷_}
 use Prim.Native.Nat.{ℕ, zero, suc, _+_}
 use lib.Dec.{leb}
 use lib.ListN.{length, getD, drop}
+use lib.Ieee.{Float, nan, inf, fin}
 use Rattle.refusal.specs.Paper.{Paper, answer, refused, refuse_at_unless_, refuse_unless_, _>>_, _>>=_, roomFor, laid}
 use Rattle.rising.specs.Rising.{risingFrom}
 use Rattle.division.specs.Words.{_≤?_, _<?_, _=?_}
 use Rattle.division.specs.Table.{isScale, made}
 use Rattle.division.specs.declared.Edges.{Edges}
-use Rattle.division.specs.Grid.{area, within}
-use Rattle.division.specs.Sheet.{scaleOf}
+use Rattle.division.specs.Grid.{area, owns, within}
+use Rattle.division.specs.Sheet.{scaleOf, sheetAt}
 use Rattle.division.specs.Cover.{sheetsIn, isWindow, coverable}
+use Rattle.frame.specs.Exact.{exactly, downward, upward}
+use Rattle.frame.specs.Metres.{sheetAtMetres}
 use Rattle.label.specs.Label.{inRange, scaleWith, wellFormed, numbersIn, sheetNamed, readLabel}
 use Rattle.catalogue.specs.Line.{labelIn, hasName, nameIn, isName, withName, readLine}
 use Rattle.shelf.specs.Number.{highs, readNumber}
@@ -39,6 +42,11 @@ module _ {listed : List ℕ} where
   found-gives (answers {a}) h = h a
   found-gives (refuses i c) h = refuses i c
 
+  -- the same, where what is asked next is known to be an answer
+  pub answered-gives : {A B : Type 0} (p : Paper A) {next : A → Paper B} → Gives listed p → ((a : A) → p ≡ answer a → Gives listed (next a)) → Gives listed (p >>= next)
+  answered-gives (answer a) g h = h a refl
+  answered-gives (refused n v) (refuses i c) h = refuses i c
+
   pub read-gives : {A : Type 0} {p : Paper A} (next : A → Reading) → Gives listed p → ((a : A) → Gives listed (next a .ended)) → Gives listed ((p thenRead next) .ended)
   read-gives next (answers {a}) h = h a
   read-gives next (refuses i c) h = refuses i c
@@ -57,7 +65,21 @@ module _ {listed : List ℕ} where
   pub given-listed : {A : Type 0} {n v : ℕ} → Gives {A = A} listed (refused n v) → isIn listed n ≡ true
   given-listed (refuses i c) = i
 
-  -- ---- what other questions ask for: a label, a set, the numbers of a list
+  -- ---- what other questions ask for: a point in metres, a label, a set, the numbers of a list
+
+  exactly-gives : isIn listed 18 ≡ true → (x : Float) → Gives listed (exactly x)
+  unfolding exactly
+  exactly-gives i nan = refuses i (λ c. refl)
+  exactly-gives i (inf below) = refuses i (λ c. refl)
+  exactly-gives i (fin below mantissa power) = answers
+
+  pub metres-give : isIn listed 2 ≡ true → isIn listed 18 ≡ true → isIn listed 1 ≡ true → (s : ℕ) (e n : Float) → Gives listed (sheetAtMetres s e n)
+  unfolding sheetAtMetres downward upward sheetAt
+  metres-give h i j s e n =
+      line-gives 2 (isScale s) h
+      (found-gives (found-gives (exactly-gives i e) λ value. answers) λ east.
+      found-gives (found-gives (exactly-gives i n) λ value. answers) λ north.
+      line-gives 2 (isScale s) h (line-gives 1 (owns area east north) j answers))
 
   pub label-gives : isIn listed 4 ≡ true → isIn listed 5 ≡ true → (label : List ℕ) → Gives listed (readLabel label)
   unfolding readLabel sheetNamed

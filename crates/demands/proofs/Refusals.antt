@@ -1,23 +1,32 @@
 -- Each question gives only the refusals listed for it: they are those of the lines of its definition. Assumes nothing.
-use mathlib.Core.Path.{refl}
+use mathlib.Core.Path.{refl, sym, subst}
+use mathlib.Core.List.{[], _∷_}
 use Rattle.division.specs.Words.{_≤?_, _=?_}
 use Rattle.division.specs.Table.{rows, columns, isScale, parentScale}
 use Rattle.division.specs.Grid.{area, owns}
 use Rattle.division.specs.Sheet.{isSheet, scaleOf, placeOf, onGrid, locate, sheetOn, sheetAt, cornersOf}
 use Rattle.relations.specs.Relations.{isPart, parent, child, stays, walk, step, offset}
 use Rattle.division.specs.Cover.{sheetsIn, cover, blockIn}
+use Rattle.frame.specs.Metres.{frameOf, sheetAtMetres, frameAtMetres}
+use Rattle.frame.proofs.PointTheorems.{answered}
+use Rattle.frame.proofs.FrameTheorems.{frame-exact}
 use Rattle.label.specs.Label.{labelOf, writeLabel, labelLength}
 use Rattle.shelf.specs.Kind.{ofSheets}
 use Rattle.shelf.specs.Writing.{listBytes, writeIn, lengthIn}
 use Rattle.shelf.specs.Reading.{behindIn, readIn}
-use Rattle.demands.specs.Refusals.{answers, RefusalsNumbered}
-use Rattle.demands.proofs.GivesLaws.{test-gives, then-gives, line-gives, read-gives, room-gives, laid-gives, label-gives, line-of-gives, cover-gives, set-gives, number-gives, entries-give}
+use Rattle.demands.specs.Refusals.{Gives, answers, RefusalsNumbered}
+use Rattle.demands.proofs.GivesLaws.{test-gives, then-gives, line-gives, found-gives, answered-gives, read-gives, metres-give, room-gives, laid-gives, label-gives, line-of-gives, cover-gives, set-gives, number-gives, entries-give}
 
 pub refusals-numbered : RefusalsNumbered
-unfolding sheetAt locate sheetOn cornersOf parent child step walk offset cover blockIn writeLabel labelLength writeIn lengthIn readIn behindIn
+unfolding sheetAt locate sheetOn cornersOf frameOf frameAtMetres parent child step walk offset cover blockIn writeLabel labelLength writeIn lengthIn readIn behindIn
 refusals-numbered = record {
   points = λ s e n. line-gives 2 (isScale s) refl (line-gives 1 (owns area e n) refl answers);
   corners = λ n. line-gives 3 (isSheet n) refl answers;
+  metres = metres-give refl refl refl;
+  frames = λ n. found-gives (line-gives 3 (isSheet n) refl answers) λ ground. answers;
+  framed = λ s e n.
+      answered-gives (sheetAtMetres s e n) (metres-give refl refl refl s e n) λ k a.
+      subst (Gives (2 ∷ 18 ∷ 1 ∷ [])) (sym (frame-exact k (answered s e n a .4 .sheet) .1)) answers;
   located = λ n. line-gives 3 (isSheet n) refl answers;
   places = λ s p. line-gives 2 (isScale s) refl (line-gives 6 (onGrid s p) refl answers);
   parents = λ n. line-gives 3 (isSheet n) refl (line-gives 6 (1 ≤? parentScale (scaleOf n)) refl answers);

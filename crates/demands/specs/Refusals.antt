@@ -4,6 +4,7 @@ use mathlib.Core.Path.{_≡_}
 use mathlib.Core.Bool.{Bool, true, false, _||_}
 use mathlib.Core.List.{List, [], _∷_}
 use lib.IntN.{ℤ}
+use lib.Ieee.{Float}
 use Rattle.refusal.specs.Paper.{Paper, answer, refused}
 use Rattle.refusal.specs.Numbers.{carries}
 use Rattle.division.specs.declared.Edges.{Edges}
@@ -12,6 +13,7 @@ use Rattle.division.specs.Words.{_=?_}
 use Rattle.division.specs.Sheet.{locate, sheetOn, sheetAt, cornersOf}
 use Rattle.relations.specs.Relations.{parent, child, step, offset}
 use Rattle.division.specs.Cover.{cover, blockIn}
+use Rattle.frame.specs.Metres.{frameOf, sheetAtMetres, frameAtMetres}
 use Rattle.label.specs.Label.{readLabel, writeLabel, labelLength}
 use Rattle.catalogue.specs.Line.{readLine}
 use Rattle.shelf.specs.Writing.{writeList, listLength}
@@ -36,6 +38,10 @@ pub record RefusalsNumbered : Type 0 where
   pub points : (s : ℕ) (e n : ℤ) → Gives (2 ∷ 1 ∷ []) (sheetAt s e n)
   pub corners : (n : ℕ) → Gives (3 ∷ []) (cornersOf n)
   pub located : (n : ℕ) → Gives (3 ∷ []) (locate n)
+  -- document 02, a): "18, a value that is infinite or no number, stands after 2 and before 1"
+  pub metres : (s : ℕ) (e n : Float) → Gives (2 ∷ 18 ∷ 1 ∷ []) (sheetAtMetres s e n)
+  pub frames : (n : ℕ) → Gives (3 ∷ []) (frameOf n)
+  pub framed : (s : ℕ) (e n : Float) → Gives (2 ∷ 18 ∷ 1 ∷ []) (frameAtMetres s e n)
   -- a place off the grid gets 6, as a step off the grid does
   pub places : (s : ℕ) (p : Place) → Gives (2 ∷ 6 ∷ []) (sheetOn s p)
   pub parents : (n : ℕ) → Gives (3 ∷ 6 ∷ []) (parent n)

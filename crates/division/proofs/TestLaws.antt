@@ -113,7 +113,7 @@ ltb-not : (a b : ℕ) → ltb a b ≡ not (leb b a)
 ltb-not a b =
     ⊎-elim (λ k. le-ltb a b k ∙ sym (ap not (le-leb b a k))) (λ k. lt-ltb a b k ∙ sym (ap not (lt-leb b a k))) (le-or-less b a)
 
-lt-not : (x y : ℤ) → ltZ x y ≡ not (leZ y x)
+pub lt-not : (x y : ℤ) → ltZ x y ≡ not (leZ y x)
 lt-not (pos a) (pos b) = ltb-not a b
 lt-not (pos a) (negsuc b) = refl
 lt-not (negsuc a) (pos b) = refl

@@ -8,7 +8,7 @@ use borrow.Author.Tests.{not-true, not-false, le-leb, leb-true}
 use lib.Dec.{leb, eqb}
 use lib.ListN.{length, getD}
 use Rattle.refusal.specs.declared.Refusal.{Refusal}
-use Rattle.refusal.specs.declared.Refusal.the-variants.{PointOutside, NoScale, NoSheet, LabelForm, FieldRange, NoSuch, WindowOrder, WindowOutside, TooMany, Room, EndsEarly, BadNumber, PastLast, MoreBytes, NotRising, NameForm, NameScale}
+use Rattle.refusal.specs.declared.Refusal.the-variants.{PointOutside, NoScale, NoSheet, LabelForm, FieldRange, NoSuch, WindowOrder, WindowOutside, TooMany, Room, EndsEarly, BadNumber, PastLast, MoreBytes, NotRising, NameForm, NameScale, NoNumber}
 use Rattle.refusal.specs.declared.Numbered.{Numbered}
 use Rattle.refusal.specs.declared.Laid.{Laid}
 use Rattle.refusal.specs.declared.Laid.the-variants.{Items, Refused}
@@ -40,7 +40,7 @@ same-answer e = cc
 
 -- the refusal of a number and a value
 abbrev refusalAt : ℕ → ℕ → Refusal
-refusalAt n v = getD (PointOutside ∷ NoScale ∷ NoSheet ∷ LabelForm ∷ FieldRange ∷ NoSuch ∷ WindowOrder ∷ WindowOutside ∷ TooMany ∷ Room v ∷ EndsEarly ∷ BadNumber ∷ PastLast ∷ MoreBytes ∷ NotRising ∷ NameForm ∷ NameScale ∷ []) (n - 1) NameScale
+refusalAt n v = getD (PointOutside ∷ NoScale ∷ NoSheet ∷ LabelForm ∷ FieldRange ∷ NoSuch ∷ WindowOrder ∷ WindowOutside ∷ TooMany ∷ Room v ∷ EndsEarly ∷ BadNumber ∷ PastLast ∷ MoreBytes ∷ NotRising ∷ NameForm ∷ NameScale ∷ NoNumber ∷ []) (n - 1) NoNumber
 
 -- from the paper back to an answer of a kind
 abbrev pub read : {A X : Type 0} → (X → A) → (Refusal → A) → Paper X → A
@@ -65,6 +65,7 @@ read-refusal good bad MoreBytes = refl
 read-refusal good bad NotRising = refl
 read-refusal good bad NameForm = refl
 read-refusal good bad NameScale = refl
+read-refusal good bad NoNumber = refl
 
 -- a refusal is no answer
 pub no-answer : (A : Type 0) (why : Refusal) → isAnswer (onPaper {A = A} why) ≡ false
@@ -100,6 +101,7 @@ on-paper MoreBytes = record { number = 14; some = refl; value = 0; bare = λ e. 
 on-paper NotRising = record { number = 15; some = refl; value = 0; bare = λ e. refl; is = λ A. refl }
 on-paper NameForm = record { number = 16; some = refl; value = 0; bare = λ e. refl; is = λ A. refl }
 on-paper NameScale = record { number = 17; some = refl; value = 0; bare = λ e. refl; is = λ A. refl }
+on-paper NoNumber = record { number = 18; some = refl; value = 0; bare = λ e. refl; is = λ A. refl }
 
 -- and there is one telling of it in numbers
 pub one-numbering : {why : Refusal} {a b : Numbered} → IsNumbered why a → IsNumbered why b → a ≡ b
@@ -164,6 +166,10 @@ passed-judge (refused n v) next e = absurd (differs (sym e))
 
 pub judge-refuses : {A : Type 0} {p : Paper Unit} (why : Refusal) (next : Paper A) → p ≡ onPaper why → (p >> next) ≡ onPaper why
 judge-refuses {A} why next e = rw (e, on-paper why .is A, on-paper why .is Unit)
+
+-- a question that refuses is repeated by whatever would ask on
+pub asked-on : {A B : Type 0} {p : Paper A} (why : Refusal) (next : A → Paper B) → onPaper why ≡ p → onPaper why ≡ (p >>= next)
+asked-on {A} {B} why next e = rw (← e, on-paper why .is A, on-paper why .is B)
 
 -- items that are laid: all of them, where there is room
 pub laid-fits : (items : List ℕ) {room : ℕ} → length items ≤ room → laid items room ≡ answer items

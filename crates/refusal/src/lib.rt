@@ -1,11 +1,11 @@
-// The refusals of document 01, "Numbers of refusal". Every question of the box gets its answer or one of these seventeen. And
-// `lay`, for bytes that are there already and go into lent room.
+// The refusals: document 01, "Numbers of refusal", and those that document 02 adds. Every question of the box gets its answer or one of
+// these. And `lay`, for bytes that are there already and go into lent room.
 ghost use mathlib.Core.Path.{_≡_};
 ghost use lib.ListN.{length};
 ghost use Rattle.refusal.specs.Paper.{laid, counted, roomAfter};
 ghost use Rattle.refusal.specs.Numbers.{IsNumbered, laidPaper};
 
-// Why there is no answer, in the order of the paper's numbers 1 to 17.
+// Why there is no answer, in the order of the papers' numbers, from 1.
 pub enum Refusal {
     PointOutside,
     NoScale,
@@ -25,6 +25,7 @@ pub enum Refusal {
     NotRising,
     NameForm,
     NameScale,
+    NoNumber,
 }
 
 // What was laid into lent room: so many sheets or bytes, from its first place on; or a refusal, and the room is as it was.
@@ -58,6 +59,7 @@ impl Refusal {
             Refusal::NotRising => Numbered(15, 0, false),
             Refusal::NameForm => Numbered(16, 0, false),
             Refusal::NameScale => Numbered(17, 0, false),
+            Refusal::NoNumber => Numbered(18, 0, false),
         }
     }
 }

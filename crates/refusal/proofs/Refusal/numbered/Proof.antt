@@ -63,6 +63,9 @@ enum-told-15 c = search needs
 enum-told-16 : tie.Need-enum-told-16
 enum-told-16 c = search needs
 
+enum-told-17 : tie.Need-enum-told-17
+enum-told-17 c = search needs
+
 returns : tie.Need-returns
 returns c = told (c .enum-told .given .1) refl refl
 
@@ -114,6 +117,9 @@ returns-16 c = told (c .enum-told15 .given .1) refl refl
 returns-17 : tie.Need-returns-17
 returns-17 c = told (c .enum-told16 .given .1) refl refl
 
+returns-18 : tie.Need-returns-18
+returns-18 c = told (c .enum-told17 .given .1) refl refl
+
 pub numbered-spec : {M : Type 1} → statement M
 numbered-spec =
     tie.close
@@ -135,6 +141,7 @@ numbered-spec =
     enum-told-14
     enum-told-15
     enum-told-16
+    enum-told-17
     returns
     returns-2
     returns-3
@@ -151,4 +158,5 @@ numbered-spec =
     returns-14
     returns-15
     returns-16
-    returns-17)
+    returns-17
+    returns-18)

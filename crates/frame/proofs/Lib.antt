@@ -1,0 +1,10 @@
+pub mod SignLaws
+pub mod FractionLaws
+pub mod BitLaws
+pub mod FarLaws
+pub mod FloatLaws
+pub mod HundredLaws
+pub mod PointTheorems
+pub mod PointLaws
+pub mod FrameTheorems
+pub mod AnswerLaws
