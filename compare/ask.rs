@@ -6,6 +6,7 @@ use std::fmt::Write as _;
 use std::io::{BufReader, Read, Write};
 use std::process::{exit, Child, ChildStdin, ChildStdout, Command, Stdio};
 
+/// Floats are told by their bits.
 #[derive(Clone, Debug)]
 pub enum Question {
     Facts { scale: u32 },
@@ -30,6 +31,9 @@ pub enum Question {
     ListLength { sheets: Vec<u32> },
     WriteList { sheets: Vec<u32>, room: usize },
     ReadList { list: Vec<u8>, room: usize },
+    Frame { sheet: u32 },
+    SheetAtMetres { scale: u32, e: u64, n: u64 },
+    FrameAtMetres { scale: u32, e: u64, n: u64 },
 }
 
 #[derive(Clone, Copy, PartialEq)]
@@ -40,7 +44,7 @@ enum Room {
 }
 
 /// Of each kind of question, in order: the function, how many numbers it gives, and the room that is lent to it.
-const KINDS: [(&str, usize, Room); 22] = [
+const KINDS: [(&str, usize, Room); 25] = [
     ("width, height, rows, columns, first, last", 6, Room::None),
     ("scale_of", 0, Room::None),
     ("locate", 3, Room::None),
@@ -63,7 +67,15 @@ const KINDS: [(&str, usize, Room); 22] = [
     ("list_length", 1, Room::None),
     ("write_list", 1, Room::Bytes),
     ("read_list", 2, Room::Sheets),
+    ("frame", 6, Room::None),
+    ("sheet_at_metres", 1, Room::None),
+    ("frame_at_metres", 6, Room::None),
 ];
+
+/// The kinds whose numbers are floats.
+const IN_METRES: [usize; 2] = [23, 25];
+/// The results that there are: 0, and the numbers of refusal.
+const RESULTS: usize = 19;
 
 const GUARD: usize = 8;
 const NONE: u32 = u32::MAX;
@@ -165,6 +177,9 @@ impl Question {
             Question::ListLength { .. } => 20,
             Question::WriteList { .. } => 21,
             Question::ReadList { .. } => 22,
+            Question::Frame { .. } => 23,
+            Question::SheetAtMetres { .. } => 24,
+            Question::FrameAtMetres { .. } => 25,
         }
     }
 
@@ -178,6 +193,11 @@ impl Question {
         fn wide(to: &mut Vec<u8>, numbers: &[i64]) {
             for number in numbers {
                 to.extend(number.to_le_bytes());
+            }
+        }
+        fn floats(to: &mut Vec<u8>, floats: &[u64]) {
+            for bits in floats {
+                to.extend(bits.to_le_bytes());
             }
         }
         fn bytes(to: &mut Vec<u8>, bytes: &[u8]) {
@@ -196,11 +216,16 @@ impl Question {
             | Question::Locate { sheet }
             | Question::Corners { sheet }
             | Question::Parent { sheet }
-            | Question::LabelLength { sheet } => numbers(to, &[*sheet]),
+            | Question::LabelLength { sheet }
+            | Question::Frame { sheet } => numbers(to, &[*sheet]),
             Question::SheetOn { scale, row, column } => numbers(to, &[*scale, *row, *column]),
             Question::SheetAt { scale, e, n } => {
                 numbers(to, &[*scale]);
                 wide(to, &[*e, *n]);
+            }
+            Question::SheetAtMetres { scale, e, n } | Question::FrameAtMetres { scale, e, n } => {
+                numbers(to, &[*scale]);
+                floats(to, &[*e, *n]);
             }
             Question::Child { sheet, scale, number } => numbers(to, &[*sheet, *scale, *number]),
             Question::Step { sheet, east, south } => {
@@ -317,6 +342,9 @@ impl Question {
                 form.number(value);
                 form.sheets_room(*room, &placed);
             }
+            Question::Frame { sheet } => form.several(division.frame_in_metres(*sheet), mark),
+            Question::SheetAtMetres { scale, e, n } => form.value(division.sheet_at_metres(*scale, *e, *n)),
+            Question::FrameAtMetres { scale, e, n } => form.several(division.frame_at_metres(*scale, *e, *n), mark),
         }
     }
 }
@@ -327,13 +355,16 @@ fn tell(body: &[u8]) -> String {
         Some(body.get(at..at + bytes)?.iter().rev().fold(0, |high, &byte| high << 8 | byte as u64))
     }
     let told = || -> Option<String> {
-        let (_, numbers, room) = *KINDS.get((number(body, 0, 1)? as usize).wrapping_sub(1))?;
+        let kind = number(body, 0, 1)? as usize;
+        let (_, numbers, room) = *KINDS.get(kind.wrapping_sub(1))?;
         let mut text = format!("result {}", number(body, 2, 4)?);
         if number(body, 1, 1)? != 0 {
             text += ", WROTE BESIDE WHAT IT WAS LENT";
         }
         for k in 0..numbers {
-            let _ = write!(text, "{} {}", if k == 0 { ", gives" } else { "" }, number(body, 6 + 8 * k, 8)? as i64);
+            let given = number(body, 6 + 8 * k, 8)?;
+            let shown = if IN_METRES.contains(&kind) { metres(given) } else { (given as i64).to_string() };
+            let _ = write!(text, "{} {shown}", if k == 0 { ", gives" } else { "" });
         }
         if room != Room::None {
             let at = 6 + 8 * numbers;
@@ -353,9 +384,17 @@ fn tell(body: &[u8]) -> String {
     told().unwrap_or_else(|| format!("{body:?}"))
 }
 
-/// Bytes for people: as text where they are such, and as numbers.
+/// A float for people: in full, and its bits.
+fn metres(bits: u64) -> String {
+    format!("{:?} ({bits:#018x})", f64::from_bits(bits))
+}
+
+/// A question for people: bytes as text where they are such, and as numbers; floats in metres, and as their bits.
 fn spell(question: &Question) -> String {
     let mut text = format!("{question:?}");
+    if let Question::SheetAtMetres { e, n, .. } | Question::FrameAtMetres { e, n, .. } = question {
+        let _ = write!(text, "\n    e is {}, n is {}", metres(*e), metres(*n));
+    }
     let mut add = |name: &str, bytes: &[u8]| {
         let _ = write!(text, "\n    {name} as text: \"{}\"", bytes.escape_ascii());
     };
@@ -400,7 +439,7 @@ pub struct Asker<'a> {
     said: Vec<u8>,
     told: [usize; KINDS.len()],
     different: u64,
-    counts: [[u64; 18]; KINDS.len()],
+    counts: [[u64; RESULTS]; KINDS.len()],
 }
 
 fn stop(what: &str) -> ! {
@@ -430,7 +469,7 @@ impl<'a> Asker<'a> {
             said: Vec::new(),
             told: [0; KINDS.len()],
             different: 0,
-            counts: [[0; 18]; KINDS.len()],
+            counts: [[0; RESULTS]; KINDS.len()],
         }
     }
 

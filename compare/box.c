@@ -1,12 +1,13 @@
 /* The library's side of the comparison: answers the questions that compare/against.rs asks, through include/qubathimi.h alone.
  *
  * Standard input has blocks: a length of four bytes, then so many bytes of questions. A question is its kind (a byte), a salt (four
- * bytes) and what is asked; numbers are little-endian, bytes and sheets have their count in four bytes before them, room has its
- * length in four bytes. A block is read whole before its first answer is written. The end of the input ends the program.
+ * bytes) and what is asked; numbers are little-endian, floats are told by their bits, bytes and sheets have their count in four bytes
+ * before them, room has its length in four bytes. A block is read whole before its first answer is written. The end of the input ends
+ * the program.
  *
  * An answer is its length (four bytes), then the kind, a byte that is 1 where something beside the places lent was written to, the
- * function's result (four bytes), the numbers that it gives by pointers (eight bytes each), and the lent room: the first place that
- * has lost its mark and the place behind the last such one (four bytes each), then all from the one up to the other.
+ * function's result (four bytes), the numbers or floats that it gives by pointers (eight bytes each), and the lent room: the first place
+ * that has lost its mark and the place behind the last such one (four bytes each), then all from the one up to the other.
  *
  * Every place that a function may write to is marked beforehand, and so are the places around it. Marks depend on the salt. */
 #include "qubathimi.h"
@@ -14,7 +15,7 @@
 extern long read(int file, void *to, size_t most);
 extern long write(int file, const void *from, size_t count);
 
-enum { LARGEST_BLOCK = 1 << 23, LARGEST_ANSWER = 1 << 17, ANSWERS = 1 << 24, GUARD = 8, MOST_ROOM = 1 << 14, MOST_OUT = 4 };
+enum { LARGEST_BLOCK = 1 << 23, LARGEST_ANSWER = 1 << 17, ANSWERS = 1 << 24, GUARD = 8, MOST_ROOM = 1 << 14, MOST_OUT = 6 };
 
 static uint8_t block[LARGEST_BLOCK];
 static uint8_t answers[ANSWERS];
@@ -58,6 +59,18 @@ static uint64_t take(int bytes) {
 static uint32_t take_u32(void) { return (uint32_t)take(4); }
 static int64_t take_i64(void) { return (int64_t)take(8); }
 
+/* A number, or a float that is looked at by its bits alone, so that none is altered on its way. */
+union number {
+    uint64_t whole;
+    double metres;
+};
+
+static double take_metres(void) {
+    union number taken;
+    taken.whole = take(8);
+    return taken.metres;
+}
+
 static const uint8_t *take_bytes(size_t *count) {
     const uint8_t *from;
     *count = take(4);
@@ -85,7 +98,7 @@ static const uint32_t *take_sheets(size_t *count) {
 /* ---- Marks ---- */
 
 static uint32_t salt;
-static uint64_t out[2 * MOST_OUT + 1];
+static union number out[2 * MOST_OUT + 1];
 static uint32_t small[2 * MOST_OUT + 1];
 static uint8_t bytes_room[MOST_ROOM + 2 * GUARD];
 static uint32_t sheets_room[MOST_ROOM + 2 * GUARD];
@@ -98,12 +111,13 @@ static uint8_t mark_u8(uint64_t place) { return (uint8_t)(mark(place) >> 56) | 0
 /* The places lent are the odd ones; the even ones lie between them and must keep their marks. */
 static void mark_out(void) {
     for (int k = 0; k <= 2 * MOST_OUT; k++) {
-        out[k] = mark((uint64_t)k);
+        out[k].whole = mark((uint64_t)k);
         small[k] = mark_u32((uint64_t)k);
     }
 }
 
-static uint64_t *at(int k) { return &out[2 * k + 1]; }
+static uint64_t *at(int k) { return &out[2 * k + 1].whole; }
+static double *metres_at(int k) { return &out[2 * k + 1].metres; }
 static uint32_t *small_at(int k) { return &small[2 * k + 1]; }
 
 static void take_room(void) {
@@ -137,7 +151,7 @@ static void put(uint64_t number, int bytes) {
 static void begin(uint8_t kind, uint32_t result) {
     uint8_t strayed = 0;
     for (int k = 0; k <= 2 * MOST_OUT; k += 2) {
-        if (out[k] != mark((uint64_t)k) || small[k] != mark_u32((uint64_t)k)) strayed = 1;
+        if (out[k].whole != mark((uint64_t)k) || small[k] != mark_u32((uint64_t)k)) strayed = 1;
     }
     begun = answered;
     put(0, 4);
@@ -147,7 +161,7 @@ static void begin(uint8_t kind, uint32_t result) {
 }
 
 static void put_out(int count) {
-    for (int k = 0; k < count; k++) put(*at(k), 8);
+    for (int k = 0; k < count; k++) put(out[2 * k + 1].whole, 8);
 }
 
 static void put_bytes_room(void) {
@@ -185,6 +199,7 @@ static void answer(void) {
     uint8_t kind = (uint8_t)take(1);
     uint32_t a, b, c;
     int64_t p, q, west, east, south, north;
+    double e_metres, n_metres;
     size_t m, n;
     const uint8_t *one, *other;
     const uint32_t *set;
@@ -349,6 +364,29 @@ static void answer(void) {
         begin(kind, a);
         put_out(2);
         put_sheets_room();
+        break;
+    case 23:
+        a = take_u32();
+        a = qubathimi_frame(a, metres_at(0), metres_at(1), metres_at(2), metres_at(3), metres_at(4), metres_at(5));
+        begin(kind, a);
+        put_out(6);
+        break;
+    case 24:
+        a = take_u32();
+        e_metres = take_metres();
+        n_metres = take_metres();
+        a = qubathimi_sheet_at_metres(a, e_metres, n_metres, at(0));
+        begin(kind, a);
+        put_out(1);
+        break;
+    case 25:
+        a = take_u32();
+        e_metres = take_metres();
+        n_metres = take_metres();
+        a = qubathimi_frame_at_metres(a, e_metres, n_metres, metres_at(0), metres_at(1), metres_at(2), metres_at(3), metres_at(4),
+                                      metres_at(5));
+        begin(kind, a);
+        put_out(6);
         break;
     default:
         broken = 1;

@@ -8,16 +8,21 @@
 //!     cases lines COUNT SEED     a catalogue of so many lines, nine in ten of them good (compare/lines.rs)
 //!
 //! A line of crates/cases/stdin is a question: a word, of which crates/cases reads the first letter, and what follows. Sheets are told by
-//! their numbers, points and edges in millimetres, and bytes in hexadecimal. The line of crates/cases/stdout is the question, a colon and
-//! the answer. A refusal is told by its number, and what it carries. Of more than forty bytes or sheets only the sum is told, and a sum is
-//! always one over the bytes that would be written.
+//! their numbers, points and edges in millimetres, and bytes in hexadecimal. A float, of `quad` and `under` alone, is told by its bits:
+//! those below the sign as a whole number, with a minus in front where the sign is set, so that 4692333547057315840 is 500 000.0 and -0 is
+//! -0.0. The line of crates/cases/stdout is the question, a colon and the answer. A refusal is told by its number, and what it carries. Of
+//! more than forty bytes or sheets only the sum is told, and a sum is always one over the bytes that would be written.
 //!
 //!     table 3                   of the scale: width and height in metres, first and last sheet; and the last scale and
 //!                               the last sheet of all
 //!     number 344                of the sheet: scale, row and column, and the sheet found there; west, east, south and
 //!                               north, and the sheet found at the upper left corner; parent; and the neighbours by rows
 //!                               from the north, a hyphen for none
+//!     quad 344                  the frame of the sheet in metres, as floats: west, east, south and north, and the middle,
+//!                               east and north
 //!     at 3 500000000 5000000000 the scale's sheet that owns the point E, N
+//!     under 3 E N               the scale's sheet that owns the point in metres, E and N floats; and the frame in metres
+//!                               of that sheet
 //!     on 3 8 10                 the scale's sheet in a row and a column
 //!     down 344 4 3              the sheet's child at a scale, by its number
 //!     step 344 1 -1             the sheet so many columns east and rows south
@@ -46,13 +51,14 @@
 //!     vary 3 0300d702bc         a sum over what `bytes` tells when each byte in turn is changed to each of the 256
 //!
 //! The questions that are stored there try, beside the examples: every border by one before, on and behind it (the area's and the sheets'
-//! edges by a millimetre, the grids' ends, each scale's first and last sheet, each field's range, each length of a number in a list, room
-//! that just is enough, 4 096 and 4 097); extremes of 32 and 64 bits, and numbers that would look right if they lost their upper bits;
-//! numbers that are no scale or no sheet; labels as the sources print them, with each kind of fault, and with strange bytes; lists that
-//! are cut, badly written, too long or wrongly counted; two faults at once, for the order of refusals; and some by chance.
+//! edges by a millimetre and in metres by a float, the grids' ends, each scale's first and last sheet, each field's range, each length of a
+//! number in a list, room that just is enough, 4 096 and 4 097); extremes of 32 and 64 bits, and numbers that would look right if they lost
+//! their upper bits; the smallest and the largest floats, infinite ones and those that are no number; numbers that are no scale or no
+//! sheet; labels as the sources print them, with each kind of fault, and with strange bytes; lists that are cut, badly written, too long or
+//! wrongly counted; two faults at once, for the order of refusals; and some by chance.
 //!
-//! The lines of compare/examples.txt are document 01's examples, question and answer written out by hand: these answers are not asked of
-//! the paper, but must be its own.
+//! The lines of compare/examples.txt are document 01's examples and cases of document 02, question and answer written out by hand: these
+//! answers are not asked of the paper, but must be its own.
 
 mod lines;
 mod numbers;
@@ -120,6 +126,20 @@ fn hexadecimal(bytes: &[u8]) -> String {
     bytes.iter().map(|byte| format!("{byte:02x}")).collect()
 }
 
+/// A float told by its bits, those below the sign and a minus for that; none where it is not told so.
+fn float(text: &str) -> Option<u64> {
+    let (below, sign) = text.strip_prefix('-').map_or((text, 0), |below| (below, 1 << 63));
+    Some(below.parse::<i64>().ok().filter(|&below| below >= 0)? as u64 | sign)
+}
+
+fn told_float(bits: u64) -> String {
+    format!("{}{}", if bits >> 63 == 0 { "" } else { "-" }, bits & (u64::MAX >> 1))
+}
+
+fn told_floats(answer: Answer<[u64; 6]>) -> String {
+    told(answer.map(|floats| spaced(floats.map(told_float))))
+}
+
 /// The sheets of a rule: the first, and each later one so far from the one before, in 32 bits.
 fn ruled(first: u32, step: u32, count: usize) -> Vec<u32> {
     (0..count as u32).map(|k| first.wrapping_add(step.wrapping_mul(k))).collect()
@@ -151,6 +171,10 @@ impl Paper {
         let row = |row: &[Option<u32>; 3]| spaced(row.map(|place| place.map_or("-".to_string(), |sheet| sheet.to_string())));
         let [north, middle, south] = self.0.neighbours(sheet);
         format!("{}, {}, {}, {}", self.sheet(sheet), row(&north), row(&middle), row(&south))
+    }
+
+    fn under(&self, scale: u32, e: u64, n: u64) -> String {
+        format!("{}, {}", told(self.0.sheet_at_metres(scale, e, n)), told_floats(self.0.frame_at_metres(scale, e, n)))
     }
 
     fn cover(&self, room: usize, scale: u32, window: Frame) -> String {
@@ -230,6 +254,10 @@ impl Paper {
         if word == "label" {
             return Some(self.label(rest.as_bytes()));
         }
+        if word == "under" {
+            let [scale, e, n] = rest.split(' ').collect::<Vec<_>>()[..] else { return None };
+            return Some(self.under(scale.parse().ok()?, float(e)?, float(n)?));
+        }
         if let "heads" | "bytes" | "vary" = word {
             let (room, digits) = rest.split_once(' ')?;
             let room = room.parse().ok()?;
@@ -245,6 +273,7 @@ impl Paper {
         Some(match (word, &numbers[..]) {
             ("table", &[scale]) => self.table(scale as u32),
             ("number", &[sheet]) => self.number(sheet as u32),
+            ("quad", &[sheet]) => told_floats(self.0.frame_in_metres(sheet as u32)),
             ("at", &[scale, e, n]) => told(self.0.sheet_of_point(scale as u32, e, n)),
             ("on", &[scale, row, column]) => told(self.0.sheet_on(scale as u32, row as i128, column as i128)),
             ("down", &[sheet, scale, number]) => told(self.0.child(sheet as u32, scale as u32, number as u32)),

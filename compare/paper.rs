@@ -1,11 +1,13 @@
-// Document 01 in plain Rust, written from its text alone, to compare the library with: the one reference implementation. It goes its own
-// way where it can: the whole division is laid out once, sheet after sheet, in the order in which the document numbers them, and
-// questions are answered by looking there. No sheet number is worked out by a formula, a point finds its sheet by a search of the
-// edges, and a label is read by looking for the sheet whose label is spelt so. Its sections are those of the document.
+// Document 01, and what document 02 adds to it, in plain Rust, written from their text alone, to compare the library with: the one
+// reference implementation. It goes its own way where it can: the whole division is laid out once, sheet after sheet, in the order in
+// which document 01 numbers them, and questions are answered by looking there. No sheet number is worked out by a formula, a point finds
+// its sheet by a search of the edges, in metres as in millimetres, and a label is read by looking for the sheet whose label is spelt so.
+// Its sections are those of document 01; those of document 02 have its letters.
 //
 // against.rs asks it beside the library, through the C interface; cases.rs writes its answers down for crates/cases and samples/.
 #![allow(dead_code)] // neither of the two asks for all of it
 
+use std::cmp::Ordering;
 use std::ops::Range;
 
 /// A refusal: its number in the table "Numbers of refusal", and the value that it carries (10: the room needed; others: none).
@@ -289,10 +291,14 @@ impl Division {
     /// The sheet of a scale that a point lies in: 2, 1. A sheet owns its west and north edge, and so does the area.
     pub fn sheet_of_point(&self, scale: u32, e: i64, n: i64) -> Answer<u32> {
         scale_facts(scale)?;
+        self.search(scale, |west| west <= e, |north| north >= n)
+    }
+
+    /// The sheet in the last column whose west edge is not east of a point, and the last row whose north edge is not south of it: 1.
+    fn search(&self, scale: u32, not_east: impl Fn(i64) -> bool, not_south: impl Fn(i64) -> bool) -> Answer<u32> {
         let grid = self.grid(scale);
-        // The last column whose west edge is not east of the point, and the last row whose north edge is not south of it.
-        let column = grid.west_to_east.partition_point(|&west| west <= e);
-        let row = grid.north_to_south.partition_point(|&north| north >= n);
+        let column = grid.west_to_east.partition_point(|&west| not_east(west));
+        let row = grid.north_to_south.partition_point(|&north| not_south(north));
         if column == 0 || column > grid.columns() || row == 0 || row > grid.rows() {
             return refuse(1);
         }
@@ -310,6 +316,36 @@ impl Division {
             south: grid.north_to_south[row + 1],
             north: grid.north_to_south[row],
         })
+    }
+
+    // ---- Document 02, a) "Frames in metres for the viewer": floats are told by their 64 bits ----
+
+    /// A frame "as west, east, south and north in metres, with the middle as half the sum of the edges, all exact": 3. The middle is
+    /// told east, then north.
+    pub fn frame_in_metres(&self, sheet: u32) -> Answer<[u64; 6]> {
+        let Frame { west, east, south, north } = self.frame(sheet)?;
+        let twice = [2 * west, 2 * east, 2 * south, 2 * north, west + east, south + north];
+        let exact = |twice: i64| {
+            assert_eq!(twice % 2000, 0, "of sheet {sheet} something is no whole number of metres");
+            float_of((twice / 2000) as u64)
+        };
+        Ok(twice.map(exact))
+    }
+
+    /// The sheet of a scale that a point in metres lies in: 2, 18, 1. The document rounds "so that the rounded point is in the same
+    /// sheet as the float's exact value": here nothing is rounded, and the exact value is held against the edges. "A float too large
+    /// for 64-bit millimetres gives 1": the area's own edges are not too large, so such a float lies outside of them.
+    pub fn sheet_at_metres(&self, scale: u32, e: u64, n: u64) -> Answer<u32> {
+        scale_facts(scale)?;
+        let (Some(e), Some(n)) = (Exact::of(e), Exact::of(n)) else {
+            return refuse(18);
+        };
+        self.search(scale, |west| e.to_edge(west).is_ge(), |north| n.to_edge(north).is_le())
+    }
+
+    /// The frame of that sheet: 2, 18, 1.
+    pub fn frame_at_metres(&self, scale: u32, e: u64, n: u64) -> Answer<[u64; 6]> {
+        self.frame_in_metres(self.sheet_at_metres(scale, e, n)?)
     }
 
     // ---- "Relations" ----
@@ -555,6 +591,43 @@ impl Division {
         };
         (1..).zip(&lines).map(row).collect()
     }
+}
+
+/// A float's exact value: the whole number times two to the power.
+#[derive(Clone, Copy)]
+struct Exact {
+    whole: i64,
+    power: i32,
+}
+
+impl Exact {
+    /// By "the float's own bits"; none for "a value that is infinite or no number". -0.0 is 0.
+    fn of(bits: u64) -> Option<Exact> {
+        let fraction = (bits % (1 << 52)) as i64;
+        let (size, power) = match (bits >> 52) % 2048 {
+            2047 => return None,
+            0 => (fraction, -1074),
+            exponent => (fraction + (1 << 52), exponent as i32 - 1075),
+        };
+        Some(Exact { whole: if bits >> 63 == 0 { size } else { -size }, power })
+    }
+
+    /// How so many metres lie to an edge in millimetres: a thousand times the whole number to the edge, that one shifted up which is in
+    /// the larger unit. Both have 63 bits and a sign, so 64 places more fit, and beyond these a shift changes nothing: a whole number
+    /// with a power above 0 has 53 bits, so that it then is beyond every edge; and an edge that is not 0 is then beyond every whole
+    /// number.
+    fn to_edge(self, millimetres: i64) -> Ordering {
+        let up = |number: i128, places: i32| number << places.clamp(0, 64);
+        up(self.whole as i128 * 1000, self.power).cmp(&up(millimetres as i128, -self.power))
+    }
+}
+
+/// The bits of the float that is this whole number. It has at most 53 bits: the highest one goes without saying, its place is the
+/// exponent, and there are places for all others.
+fn float_of(whole: u64) -> u64 {
+    let high = whole.ilog2();
+    assert!(high <= 52);
+    (1023 + high as u64) << 52 | (whole - (1 << high)) << (52 - high)
 }
 
 /// The form of a label: 1 to 16 bytes, only digits and hyphens, no empty field, no leading zero, and a known first number with its
@@ -821,5 +894,147 @@ mod tests {
         assert_eq!(rows("5-1-3-301-109-11\n0,5-1-3-301-109-11"), whole);
         assert_eq!(rows(""), "");
         assert_eq!(rows("\n"), "1 refused 4\n");
+    }
+
+    // ---- Document 02, a) ----
+
+    /// The floats next to a positive one.
+    fn above(metres: f64) -> u64 {
+        metres.to_bits() + 1
+    }
+    fn below(metres: f64) -> u64 {
+        metres.to_bits() - 1
+    }
+
+    #[test]
+    fn frames_in_metres() {
+        let frame = |sheet| division().frame_in_metres(sheet).map(|numbers| numbers.map(f64::from_bits));
+        assert_eq!(frame(344), Ok([500_000.0, 530_000.0, 4_990_000.0, 5_010_000.0, 515_000.0, 5_000_000.0]));
+        assert_eq!(frame(0), Ok([200_000.0, 350_000.0, 5_070_000.0, 5_170_000.0, 275_000.0, 5_120_000.0]));
+        assert_eq!(frame(3_657_982), Ok([500_000.0, 500_300.0, 4_999_800.0, 5_000_000.0, 500_150.0, 4_999_900.0]));
+        assert_eq!(frame(LAST_SHEET), Ok([799_700.0, 800_000.0, 4_570_000.0, 4_570_200.0, 799_850.0, 4_570_100.0]));
+        assert_eq!(frame(LAST_SHEET + 1), refuse(3));
+        assert_eq!(frame(u32::MAX), refuse(3));
+        // All exact, "because every edge is a whole number of hundred metres".
+        for sheet in 0..=LAST_SHEET {
+            let [west, east, south, north, e, n] = frame(sheet).expect("a sheet");
+            let edges = division().frame(sheet).expect("a sheet");
+            for (metres, edge) in [(west, edges.west), (east, edges.east), (south, edges.south), (north, edges.north)] {
+                assert!(edge % 100_000 == 0 && metres.to_bits() == ((edge / 1000) as f64).to_bits());
+            }
+            assert!(2 * e as i64 == west as i64 + east as i64 && e == e.trunc());
+            assert!(2 * n as i64 == south as i64 + north as i64 && n == n.trunc());
+        }
+    }
+
+    #[test]
+    fn floats_taken_apart() {
+        let told = |metres: f64| Exact::of(metres.to_bits()).map(|exact| (exact.whole, exact.power));
+        assert_eq!(told(1.0), Some((1 << 52, -52)));
+        assert_eq!(told(-0.75), Some((-3 << 51, -53)));
+        assert_eq!((told(0.0), told(-0.0)), (Some((0, -1074)), Some((0, -1074))));
+        assert_eq!(told(f64::from_bits(1)), Some((1, -1074)));
+        assert_eq!(told(f64::MIN_POSITIVE), Some((1 << 52, -1074)));
+        assert_eq!(told(f64::MIN), Some((1 - (1 << 53), 971)));
+        assert_eq!((told(f64::INFINITY), told(f64::NEG_INFINITY), told(f64::NAN)), (None, None, None));
+        for whole in [1, 2, 3, 200_000, 799_850, 5_170_000, (1 << 53) - 1] {
+            assert_eq!(float_of(whole), (whole as f64).to_bits());
+        }
+    }
+
+    #[test]
+    fn points_in_metres() {
+        let (e, n) = (500_000f64.to_bits(), 5_000_000f64.to_bits());
+        let at = |scale, e, n| division().sheet_at_metres(scale, e, n);
+        for scale in 1..=9 {
+            assert_eq!(at(scale, e, n), division().sheet_of_point(scale, 500_000_000, 5_000_000_000));
+            assert_eq!(division().frame_at_metres(scale, e, n), division().frame_in_metres(at(scale, e, n).expect("a sheet")));
+            // The area owns its west and north edge, not the others, by a hair.
+            assert!(at(scale, 200_000f64.to_bits(), n).is_ok());
+            assert_eq!(at(scale, below(200_000.0), n), refuse(1));
+            assert_eq!(at(scale, 800_000f64.to_bits(), n), refuse(1));
+            assert!(at(scale, below(800_000.0), n).is_ok());
+            assert!(at(scale, e, 5_170_000f64.to_bits()).is_ok());
+            assert_eq!(at(scale, e, above(5_170_000.0)), refuse(1));
+            assert_eq!(at(scale, e, 4_570_000f64.to_bits()), refuse(1));
+            assert!(at(scale, e, above(4_570_000.0)).is_ok());
+        }
+        let place = |e, n| division().place(at(3, e, n).expect("a sheet")).expect("a place");
+        assert_eq!(place(below(230_000.0), n).column + 1, 1);
+        assert_eq!(place(230_000f64.to_bits(), n).column + 1, 2);
+        assert_eq!(place(e, 5_150_000f64.to_bits()).row + 101, 102);
+        assert_eq!(place(e, above(5_150_000.0)).row + 101, 101);
+        // Numbers that are outside, however small or large.
+        let numbers = [0.0, f64::from_bits(1), f64::MIN_POSITIVE, 9_223_372_036_854_774.0, 9_223_372_036_854_776.0, 1e300, f64::MAX];
+        for metres in numbers.into_iter().flat_map(|metres| [metres.to_bits(), (-metres).to_bits()]) {
+            assert_eq!(at(3, metres, n), refuse(1));
+            assert_eq!(at(3, e, metres), refuse(1));
+            assert_eq!(at(3, metres, metres), refuse(1));
+        }
+        assert_eq!(at(3, (-500_000f64).to_bits(), n), refuse(1));
+        assert_eq!(at(3, e, (-5_000_000f64).to_bits()), refuse(1));
+    }
+
+    /// "18, a value that is infinite or no number, stands after 2 and before 1", whichever value it is.
+    #[test]
+    fn no_numbers() {
+        let (e, n) = (500_000f64.to_bits(), 5_000_000f64.to_bits());
+        let none = [0x7FF0 << 48, 0xFFF0 << 48, (0x7FF0 << 48) + 1, 0x7FF8 << 48, 0xFFF8 << 48, u64::MAX, u64::MAX >> 1];
+        for bits in none {
+            for other in [e, n, 0, f64::MAX.to_bits(), f64::MIN.to_bits(), bits, f64::NAN.to_bits()] {
+                for scale in 1..=9 {
+                    assert_eq!(division().sheet_at_metres(scale, bits, other), refuse(18));
+                    assert_eq!(division().sheet_at_metres(scale, other, bits), refuse(18));
+                    assert_eq!(division().frame_at_metres(scale, other, bits), refuse(18));
+                }
+                for scale in [0, 10, 257, u32::MAX] {
+                    assert_eq!(division().sheet_at_metres(scale, bits, other), refuse(2));
+                    assert_eq!(division().frame_at_metres(scale, other, bits), refuse(2));
+                }
+            }
+        }
+        assert_eq!(division().sheet_at_metres(0, f64::MAX.to_bits(), n), refuse(2));
+    }
+
+    /// "The east value goes down to a whole millimetre and the north value goes up": the document's rounding, done on the decimal digits,
+    /// leads to the same sheet, and beyond 64-bit millimetres there is none.
+    #[test]
+    fn rounded_points() {
+        let rounded = |bits: u64, up: bool| -> Option<i64> {
+            let text = format!("{:.1074}", f64::from_bits(bits & (u64::MAX >> 1))).replace('.', "");
+            let (whole, rest) = text.split_at(text.len() - 1071);
+            let minus = bits >> 63 == 1;
+            let further = (up != minus && rest.bytes().any(|digit| digit != b'0')) as i128;
+            let size = whole.parse::<i128>().ok()? + further;
+            i64::try_from(if minus { -size } else { size }).ok()
+        };
+        assert_eq!((rounded(0.0015f64.to_bits(), false), rounded(0.0015f64.to_bits(), true)), (Some(1), Some(2)));
+        assert_eq!((rounded((-0.0015f64).to_bits(), false), rounded((-0.0015f64).to_bits(), true)), (Some(-2), Some(-1)));
+        assert_eq!((rounded(2.5f64.to_bits(), false), rounded((-0.0f64).to_bits(), true)), (Some(2500), Some(0)));
+        let mut floats: Vec<u64> = Vec::new();
+        for exponent in 0..2047 {
+            for fraction in [0, 1, 1 << 51, (1 << 52) - 1] {
+                floats.push(exponent << 52 | fraction);
+            }
+        }
+        for edge in division().grid(3).west_to_east.iter().chain(&division().grid(3).north_to_south) {
+            for half_millimetres in -2..=2 {
+                let bits = ((2 * edge + half_millimetres) as f64 / 2000.0).to_bits();
+                floats.extend(bits - 2..=bits + 2);
+            }
+        }
+        let (e, n) = (500_000f64.to_bits(), 5_000_000f64.to_bits());
+        let mut inside = 0;
+        for bits in floats.into_iter().flat_map(|bits| [bits, bits | 1 << 63]) {
+            let (down, up) = (rounded(bits, false), rounded(bits, true));
+            for scale in [1, 3, 9] {
+                let east = down.map_or(refuse(1), |down| division().sheet_of_point(scale, down, 5_000_000_000));
+                let north = up.map_or(refuse(1), |up| division().sheet_of_point(scale, 500_000_000, up));
+                assert_eq!(division().sheet_at_metres(scale, bits, n), east, "{bits:x}");
+                assert_eq!(division().sheet_at_metres(scale, e, bits), north, "{bits:x}");
+                inside += east.is_ok() as u32 + north.is_ok() as u32;
+            }
+        }
+        assert!(inside > 3_000, "{inside}");
     }
 }

@@ -88,6 +88,59 @@ const EXTREME_I64: [i64; 20] = [
 
 const BORDERS: [i64; 4] = [AREA_WEST, AREA_EAST, AREA_SOUTH, AREA_NORTH];
 
+/// The bit of a float that is its sign, and the bits of the infinite one; beyond these are those that are no number.
+const MINUS: u64 = 1 << 63;
+const INFINITE: u64 = 0x7FF << 52;
+
+/// The float nearest to so many half millimetres, by its bits; where these have more than 53 bits it may be the one beside.
+fn metres_of(half_millimetres: i128) -> u64 {
+    (half_millimetres as f64 / 2000.0).to_bits()
+}
+
+/// Floats that are hard to take apart, by their bits, of both signs.
+fn extreme_metres() -> Vec<u64> {
+    // Good ones and the area's borders; metres and millimetres mixed up; and where metres or millimetres come to the end of 31, 32, 53, 63
+    // and 64 bits.
+    let numbers = [
+        500_000.0,
+        5_000_000.0,
+        200_000.0,
+        800_000.0,
+        4_570_000.0,
+        5_170_000.0,
+        500.0,
+        5_000.0,
+        500_000_000.0,
+        5_000_000_000.0,
+        0.0005,
+        0.001,
+        1.0,
+        2_147_483.648,
+        4_294_967.296,
+        4_294_967_296.0,
+        4_503_599_627_370_496.0,
+        9_007_199_254_740_991.0,
+        9_007_199_254_740_992.0,
+        9_223_372_036_854_772.0,
+        9_223_372_036_854_774.0,
+        9_223_372_036_854_776.0,
+        9_223_372_036_854_778.0,
+        18_446_744_073_709_548.0,
+        18_446_744_073_709_552.0,
+        18_446_744_073_709_556.0,
+        9_223_372_036_854_775_808.0,
+        18_446_744_073_709_551_616.0,
+        1e300,
+    ];
+    let mut floats: Vec<u64> = numbers.iter().map(|number: &f64| number.to_bits()).collect();
+    // The smallest, subnormal and not; the largest; and the infinite one.
+    floats.extend([0, 1, 2, 1 << 51, (1 << 52) - 1, 1 << 52, (1 << 52) + 1, INFINITE - 2, INFINITE - 1, INFINITE]);
+    // Those that are no number, of both kinds, with little behind the exponent, or much, or a good number's fraction.
+    let good = 500_000f64.to_bits() % (1 << 52);
+    floats.extend([1, 2, good, (1 << 51) - 1, 1 << 51, (1 << 51) + 1, (1 << 51) | good, (1 << 52) - 1].map(|payload| INFINITE + payload));
+    floats.iter().flat_map(|&bits| [bits, bits | MINUS]).collect()
+}
+
 /// First numbers of labels, known ones and others, some of which are a known one where digits wrap.
 const FIRSTS: [&str; 30] = [
     "250", "100", "50", "25", "10", "5", "2", "1", "5", "0", "00", "05", "3", "4", "6", "20", "51", "101", "200", "251", "500", "1000",
@@ -113,6 +166,10 @@ pub fn ask_all(division: &Division, asker: &mut Asker, seed: u64, long: bool) {
     let times = if long { 20 } else { 1 };
     let mut asking = Asking { division, chance: Chance(seed), asker };
     asking.scales();
+    asking.ends_of_scales();
+    asking.each_exponent(if long { 40 } else { 0 });
+    asking.each_edge_in_metres(long);
+    asking.extremes_in_metres();
     asking.each_label_damaged(if long { 8 } else { 1 });
     asking.each_field();
     asking.short_texts(if long { 6 } else { 4 });
@@ -128,6 +185,7 @@ pub fn ask_all(division: &Division, asker: &mut Asker, seed: u64, long: bool) {
                 asking.about_a_sheet();
                 asking.about_a_place();
                 asking.about_a_point();
+                asking.about_a_point_in_metres();
                 asking.about_a_child();
                 asking.about_a_step();
                 asking.about_an_offset();
@@ -136,6 +194,9 @@ pub fn ask_all(division: &Division, asker: &mut Asker, seed: u64, long: bool) {
             }
             for _ in 0..150 {
                 asking.about_a_cover();
+            }
+            for _ in 0..100 {
+                asking.about_a_frame();
             }
             for _ in 0..600 {
                 asking.about_a_label();
@@ -161,17 +222,28 @@ impl Asking<'_, '_> {
 
     fn scales(&mut self) {
         for scale in 0..600 {
-            self.ask(Question::Facts { scale });
+            self.ask_of_scale(scale);
         }
         for bit in 4..32 {
             for low in 0..10 {
-                self.ask(Question::Facts { scale: (1 << bit) | low });
-                self.ask(Question::Facts { scale: u32::MAX - (1 << bit) - low });
+                self.ask_of_scale((1 << bit) | low);
+                self.ask_of_scale(u32::MAX - (1 << bit) - low);
             }
         }
         for scale in EXTREME_U32 {
-            self.ask(Question::Facts { scale });
+            self.ask_of_scale(scale);
         }
+    }
+
+    /// What the table has of it, and its sheet at points in metres, good and bad.
+    fn ask_of_scale(&mut self, scale: u32) {
+        self.ask(Question::Facts { scale });
+        let (e, n) = (self.inside(true), self.inside(false));
+        self.ask(Question::SheetAtMetres { scale, e, n });
+        self.ask(Question::FrameAtMetres { scale, e, n });
+        self.ask_at_metres(scale, INFINITE, n);
+        self.ask_at_metres(scale, e, INFINITE + 1);
+        self.ask_at_metres(scale, n, e);
     }
 
     fn scale(&mut self) -> u32 {
@@ -234,9 +306,19 @@ impl Asking<'_, '_> {
         self.ask(Question::Corners { sheet });
         self.ask(Question::Parent { sheet });
         self.ask(Question::LabelLength { sheet });
+        self.ask(Question::Frame { sheet });
     }
 
-    /// Every sheet, its neighbours, its label, and the ways back: by the place, the corner points, the parent and the label.
+    /// The first and the last sheet of each scale.
+    fn ends_of_scales(&mut self) {
+        for facts in &SCALES {
+            self.ask_of_sheet(facts.first);
+            self.ask_of_sheet(facts.first + facts.sheets - 1);
+        }
+    }
+
+    /// Every sheet, its neighbours, its label, and the ways back: by the place, the corner points, also in metres, the parent and the
+    /// label.
     fn each_sheet(&mut self) {
         for sheet in 0..=LAST_SHEET {
             self.ask_of_sheet(sheet);
@@ -247,6 +329,7 @@ impl Asking<'_, '_> {
             let frame = self.division.frame(sheet).expect("a sheet");
             self.ask(Question::SheetAt { scale: place.scale, e: frame.west, n: frame.north });
             self.ask(Question::SheetAt { scale: place.scale, e: frame.east - 1, n: frame.south + 1 });
+            self.ask_back_in_metres(sheet);
             let label = self.division.write_label(sheet, 16).expect("a sheet");
             self.ask(Question::ReadLabel { label: label.text().to_vec() });
             if let Ok(parent) = self.division.parent(sheet) {
@@ -312,6 +395,132 @@ impl Asking<'_, '_> {
             let scale = self.scale();
             self.ask(Question::SheetAt { scale, e, n });
         }
+    }
+
+    // ---- Metres ----
+
+    /// A float within the area, east (or else north).
+    fn inside(&mut self, east: bool) -> u64 {
+        let borders = if east { [AREA_WEST, AREA_EAST] } else { [AREA_SOUTH, AREA_NORTH] };
+        let [low, high] = borders.map(|edge| metres_of(2 * edge as i128) as i64);
+        (if east { self.chance.from_to(low, high - 1) } else { self.chance.from_to(low + 1, high) }) as u64
+    }
+
+    /// The sheet of a point, and for some its frame.
+    fn ask_at_metres(&mut self, scale: u32, e: u64, n: u64) {
+        self.ask(Question::SheetAtMetres { scale, e, n });
+        if self.chance.one_in(4) {
+            self.ask(Question::FrameAtMetres { scale, e, n });
+        }
+    }
+
+    /// A float as the east (or else north) of a point that otherwise is good.
+    fn ask_one_way(&mut self, scale: u32, east: bool, bits: u64) {
+        let other = self.inside(!east);
+        let (e, n) = if east { (bits, other) } else { (other, bits) };
+        self.ask_at_metres(scale, e, n);
+    }
+
+    /// Floats of every exponent and of both signs, with fractions at both ends and in the middle, and so many more by chance.
+    fn each_exponent(&mut self, more: usize) {
+        for high in 0..4096 {
+            let mut fractions = vec![0, 1, 2, 1 << 51, (1 << 52) - 2, (1 << 52) - 1];
+            fractions.extend((0..more).map(|_| self.chance.next() >> 12));
+            for fraction in fractions {
+                for east in [true, false] {
+                    let scale = self.scale();
+                    self.ask_one_way(scale, east, high << 52 | fraction);
+                }
+            }
+        }
+    }
+
+    /// Every edge of every scale, and two floats to either side of it; of the first edges and the last, and in the long form of all, also
+    /// half a millimetre and a whole one beside.
+    fn each_edge_in_metres(&mut self, long: bool) {
+        for (scale, facts) in (1..).zip(&SCALES) {
+            let (rows, columns) = self.division.grid_size(scale);
+            for (east, first, side, last) in [(true, AREA_WEST, facts.width, columns), (false, AREA_NORTH, -facts.height, rows)] {
+                for k in 0..=last {
+                    let edge = 2 * (first + k as i64 * side * 1000);
+                    let beside = if long || k < 2 || k > last - 2 { 2 } else { 0 };
+                    for half_millimetres in edge - beside..=edge + beside {
+                        for step in -2..=2 {
+                            self.ask_one_way(scale, east, metres_of(half_millimetres as i128).wrapping_add_signed(step));
+                        }
+                    }
+                }
+            }
+        }
+    }
+
+    /// All pairs of extremes: 18 beside all that would be 1, and 2 before both.
+    fn extremes_in_metres(&mut self) {
+        let extremes = extreme_metres();
+        for &e in &extremes {
+            for &n in &extremes {
+                let scale = self.scale();
+                self.ask_at_metres(scale, e, n);
+            }
+        }
+    }
+
+    /// A float to the east (or else north), mostly of the area, often a hair beside an edge of a grid.
+    fn metres(&mut self, east: bool) -> u64 {
+        let (low, high) = if east { (AREA_WEST, AREA_EAST) } else { (AREA_SOUTH, AREA_NORTH) };
+        let step = self.chance.from_to(-2, 2);
+        match self.chance.below(24) {
+            0 => self.chance.of(&extreme_metres()),
+            1 => self.chance.next(),
+            // A good one with another bit, or with another exponent.
+            2 => self.inside(east) ^ (1 << self.chance.below(64)),
+            3 => self.inside(east).wrapping_add(1 << (52 + self.chance.below(12))),
+            4 => self.inside(east).wrapping_sub(1 << (52 + self.chance.below(12))),
+            // On the wrong side of a wrap.
+            5 => {
+                let far = 1i128 << (32 + self.chance.below(60));
+                metres_of(2 * self.chance.from_to(low, high) as i128 + if self.chance.one_in(2) { far } else { -far })
+            }
+            // Where whole numbers would be taken for metres, or for millimetres.
+            6 => (self.coordinate(east) as f64).to_bits(),
+            7 => metres_of(2 * self.coordinate(east) as i128),
+            8 => metres_of(2 * self.chance.of(&BORDERS) as i128).wrapping_add_signed(step),
+            9..=14 => {
+                let facts = &SCALES[self.chance.below(9)];
+                let side = 1000 * if east { facts.width } else { facts.height };
+                let edge = low + self.chance.from_to(0, (high - low) / side) * side;
+                metres_of(2 * edge as i128 + self.chance.from_to(-2, 2) as i128).wrapping_add_signed(step)
+            }
+            15 | 16 => metres_of(2 * self.chance.from_to(low, high) as i128).wrapping_add_signed(step),
+            _ => self.inside(east),
+        }
+    }
+
+    fn about_a_point_in_metres(&mut self) {
+        let (e, n) = (self.metres(true), self.metres(false));
+        if self.chance.one_in(3) {
+            for scale in 1..=9 {
+                self.ask_at_metres(scale, e, n);
+            }
+        } else {
+            let scale = self.scale();
+            self.ask_at_metres(scale, e, n);
+        }
+    }
+
+    /// The way back from a sheet's frame: by its upper left corner, by the last point before its lower right one, and by its middle.
+    fn ask_back_in_metres(&mut self, sheet: u32) {
+        let scale = paper::scale_of(sheet).expect("a sheet");
+        let [west, east, south, north, e, n] = self.division.frame_in_metres(sheet).expect("a sheet");
+        self.ask(Question::SheetAtMetres { scale, e: west, n: north });
+        self.ask(Question::SheetAtMetres { scale, e: east - 1, n: south + 1 });
+        self.ask(Question::FrameAtMetres { scale, e, n });
+    }
+
+    fn about_a_frame(&mut self) {
+        let sheet = self.good_sheet();
+        self.ask(Question::Frame { sheet });
+        self.ask_back_in_metres(sheet);
     }
 
     // ---- Relations ----

@@ -1,5 +1,6 @@
-/* The library from C: a point's sheet, its label and its corners, a cover, a catalogue line and a shelf list. */
+/* The library from C: a point's sheet, its label and its corners, a sheet's frame for a viewer, a cover, a catalogue line and a shelf list. */
 #include <inttypes.h>
+#include <math.h>
 #include <stdio.h>
 #include <stdlib.h>
 
@@ -42,6 +43,21 @@ static void point_and_label(void)
     printf("read back %" PRIu64 "\n", again);
     answered(qubathimi_corners((uint32_t)sheet, &west, &east, &south, &north));
     printf("corners %" PRId64 " %" PRId64 " %" PRId64 " %" PRId64 "\n", west, east, south, north);
+}
+
+/* A viewer has floats: what lies under its pointer, and the frame to draw. */
+static void viewer(void)
+{
+    uint64_t sheet;
+    double west, east, south, north, middle_e, middle_n;
+
+    answered(qubathimi_sheet_at_metres(3, 529999.9999999999, 5000000.25, &sheet));
+    printf("under the pointer %" PRIu64 "\n", sheet);
+    answered(qubathimi_frame((uint32_t)sheet, &west, &east, &south, &north, &middle_e, &middle_n));
+    printf("frame %.1f %.1f %.1f %.1f, middle %.1f %.1f\n", west, east, south, north, middle_e, middle_n);
+    /* A value that is infinite or no number has no sheet under it. */
+    uint32_t status = qubathimi_frame_at_metres(3, INFINITY, 5000000.25, &west, &east, &south, &north, &middle_e, &middle_n);
+    printf("refused %" PRIu32 "\n", status);
 }
 
 static void cover(void)
@@ -103,6 +119,7 @@ static void list(void)
 int main(void)
 {
     point_and_label();
+    viewer();
     cover();
     line();
     list();

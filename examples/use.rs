@@ -1,10 +1,24 @@
-//! The library from Rust: a point's sheet, its label and its corners, a cover, a catalogue line and a shelf list.
+//! The library from Rust: a point's sheet, its label and its corners, a sheet's frame for a viewer, a cover, a catalogue line and a shelf
+//! list.
 use std::fmt::Display;
 
 // As include/qubathimi.h declares them; a slice is handed over as a pointer and a length.
 extern "C" {
     fn qubathimi_sheet_at(scale: u32, e: i64, n: i64, value: &mut u64) -> u32;
     fn qubathimi_corners(sheet: u32, west: &mut i64, east: &mut i64, south: &mut i64, north: &mut i64) -> u32;
+    fn qubathimi_frame(sheet: u32, west: &mut f64, east: &mut f64, south: &mut f64, north: &mut f64, middle_e: &mut f64, middle_n: &mut f64) -> u32;
+    fn qubathimi_sheet_at_metres(scale: u32, e: f64, n: f64, value: &mut u64) -> u32;
+    fn qubathimi_frame_at_metres(
+        scale: u32,
+        e: f64,
+        n: f64,
+        west: &mut f64,
+        east: &mut f64,
+        south: &mut f64,
+        north: &mut f64,
+        middle_e: &mut f64,
+        middle_n: &mut f64,
+    ) -> u32;
     fn qubathimi_cover(scale: u32, west: i64, east: i64, south: i64, north: i64, room: *mut u32, length: usize, value: &mut u64) -> u32;
     fn qubathimi_read_label(label: *const u8, length: usize, value: &mut u64) -> u32;
     fn qubathimi_write_label(sheet: u32, room: *mut u8, length: usize, value: &mut u64) -> u32;
@@ -41,6 +55,27 @@ fn corners(sheet: u32) -> Result<[i64; 4], Refused> {
         0 => Ok([west, east, south, north]),
         number => Err(Refused(number, 0)),
     }
+}
+
+fn sheet_at_metres(scale: u32, e: f64, n: f64) -> Result<usize, Refused> {
+    answer(|value| unsafe { qubathimi_sheet_at_metres(scale, e, n, value) })
+}
+
+/// West, east, south and north, and the middle, in metres.
+fn frame_by(ask: impl FnOnce(&mut [f64; 6]) -> u32) -> Result<[f64; 6], Refused> {
+    let mut frame = [0.0; 6];
+    match ask(&mut frame) {
+        0 => Ok(frame),
+        number => Err(Refused(number, 0)),
+    }
+}
+
+fn frame(sheet: u32) -> Result<[f64; 6], Refused> {
+    frame_by(|[west, east, south, north, e, n]| unsafe { qubathimi_frame(sheet, west, east, south, north, e, n) })
+}
+
+fn frame_at_metres(scale: u32, e: f64, n: f64) -> Result<[f64; 6], Refused> {
+    frame_by(|[west, east, south, north, a, b]| unsafe { qubathimi_frame_at_metres(scale, e, n, west, east, south, north, a, b) })
 }
 
 fn cover(scale: u32, [west, east, south, north]: [i64; 4], room: &mut [u32]) -> Result<usize, Refused> {
@@ -100,6 +135,16 @@ fn run() -> Result<(), Refused> {
     println!("label {}", text(&room[..length]));
     println!("read back {}", read_label(&room[..length])?);
     println!("corners{}", spaced(&corners(sheet as u32)?));
+
+    // A viewer has floats: what lies under its pointer, and the frame to draw.
+    let sheet = sheet_at_metres(3, 529_999.999_999_999_9, 5_000_000.25)?;
+    println!("under the pointer {sheet}");
+    let [west, east, south, north, e, n] = frame(sheet as u32)?;
+    println!("frame {west:.1} {east:.1} {south:.1} {north:.1}, middle {e:.1} {n:.1}");
+    // A value that is infinite or no number has no sheet under it.
+    if let Err(Refused(number, _)) = frame_at_metres(3, f64::INFINITY, 5_000_000.25) {
+        println!("refused {number}");
+    }
 
     // Room that is too short is told with the room needed.
     let window = [200_000_000, 260_000_000, 5_150_000_000, 5_170_000_000];

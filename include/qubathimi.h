@@ -1,4 +1,4 @@
-/* Qubathimi for C and for any language that calls C: map sheets of nine scales, their labels, catalogue lines and shelf lists.
+/* Qubathimi for C and for any language that calls C: map sheets of nine scales, their frames, labels, catalogue lines and shelf lists.
  *
  * `rt staticlib qubathimi_c` proves the functions and writes target/staticlib/libqubathimi_c.a, for x86-64 Linux; link it with a program
  * that includes this header. Of the C library it calls memcpy and nothing else. It allocates nothing, needs no setting up and keeps
@@ -7,7 +7,7 @@
  *
  * The convention. Seven functions cannot refuse and have their answer as the result: qubathimi_width, _height, _rows, _columns, _first,
  * _last and _scale_of; and so has qubathimi_same_name, which is true or false. For all others:
- *  - The result is 0 where the function answers, and otherwise the number of the refusal, 1 to 17 (enum qubathimi_refusal). Where several
+ *  - The result is 0 where the function answers, and otherwise the number of the refusal, 1 to 18 (enum qubathimi_refusal). Where several
  *    are due, the first in the order given at the function is the one.
  *  - An answer that is one number goes to *value, and so does the count of what is laid into lent room. *value is written in every
  *    case: of a refusal it is what the refusal carries, the room needed with 10 and otherwise 0. A sheet in *value always fits the
@@ -20,7 +20,8 @@
  *  - Any numbers and any bytes may be asked.
  *
  * Sheets are named by their sheet number, 0 to 7 953 173, and scales by theirs, 1 (1:250 000) to 9 (1:500). Points, edges and windows are
- * whole millimetres, east and north. A sheet, a window and the area own their west and north edge, not their east and south edge. */
+ * whole millimetres, east and north, but for the three functions of "Metres", which have 64-bit floats. A sheet, a window and the area own
+ * their west and north edge, not their east and south edge. */
 #ifndef QUBATHIMI_H
 #define QUBATHIMI_H
 
@@ -63,7 +64,8 @@ enum qubathimi_refusal {
     QUBATHIMI_MORE_BYTES = 14,    /* bytes after the list's end */
     QUBATHIMI_NOT_RISING = 15,    /* sheets to be written not strictly rising */
     QUBATHIMI_NAME_FORM = 16,     /* name badly formed */
-    QUBATHIMI_NAME_SCALE = 17     /* name at scale 7, 8 or 9 */
+    QUBATHIMI_NAME_SCALE = 17,    /* name at scale 7, 8 or 9 */
+    QUBATHIMI_NO_NUMBER = 18      /* a value in metres that is infinite or no number */
 };
 
 /* ---- Scales. Of a number that is no scale, not 1 to 9, each of these is 0. ---- */
@@ -99,6 +101,22 @@ uint32_t qubathimi_sheet_at(uint32_t scale, int64_t e, int64_t n, uint64_t *valu
 
 /* The edges of a sheet. Refusal: 3. */
 uint32_t qubathimi_corners(uint32_t sheet, int64_t *west, int64_t *east, int64_t *south, int64_t *north);
+
+/* ---- Metres, as 64-bit floats: `double` is IEEE 754's binary64 ---- */
+
+/* The frame of a sheet: its west, east, south and north edge and the middle between them, east and north. Each is a whole number of metres,
+ * and the float is exactly that number. Refusal: 3. */
+uint32_t qubathimi_frame(uint32_t sheet, double *west, double *east, double *south, double *north, double *middle_e, double *middle_n);
+
+/* The sheet of a scale in which the point lies, e east and n north. What counts is the exact value of each float, to the last bit: a
+ * hair west of an edge is west of it, and on it is east of it; a hair north of an edge is north of it, and on it is south of it. -0.0 is 0.
+ * Refusals: 2; 18 where either value is infinite or no number, whatever the other is; 1, also where a value is beyond 64-bit
+ * millimetres. */
+uint32_t qubathimi_sheet_at_metres(uint32_t scale, double e, double n, uint64_t *value);
+
+/* The frame of that sheet. Refusals: 2; 18; 1. */
+uint32_t qubathimi_frame_at_metres(uint32_t scale, double e, double n, double *west, double *east, double *south, double *north,
+                                   double *middle_e, double *middle_n);
 
 /* ---- Relations ---- */
 

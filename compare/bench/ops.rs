@@ -25,6 +25,7 @@ extern "C" {
     fn qubathimi_read_label(label: *const u8, length: usize, value: &mut u64) -> u32;
     fn qubathimi_write_label(sheet: u32, room: *mut u8, length: usize, value: &mut u64) -> u32;
     fn qubathimi_sheet_at(scale: u32, e: i64, n: i64, value: &mut u64) -> u32;
+    fn qubathimi_sheet_at_metres(scale: u32, e: f64, n: f64, value: &mut u64) -> u32;
     fn qubathimi_write_list(sheets: *const u32, count: usize, room: *mut u8, length: usize, value: &mut u64) -> u32;
     fn qubathimi_read_list(list: *const u8, length: usize, room: *mut u32, room_length: usize, placed: &mut u64, value: &mut u64) -> u32;
 }
@@ -69,6 +70,14 @@ fn points(numbers: &mut Numbers) -> Vec<(u32, i64, i64)> {
         (scale, numbers.draw(200_000_000, 799_999_999) as i64, 5_170_000_000 - numbers.draw(0, 599_999_999) as i64)
     };
     (0..POINTS).map(|_| any_point()).collect()
+}
+
+/// Such points in metres, with a part of a millimetre more to the east and less to the north; one in eight has none.
+fn in_metres(points: &[(u32, i64, i64)]) -> Vec<(u32, f64, f64)> {
+    // Numbers of their own, so that what is drawn for other operations stays as it is.
+    let numbers = &mut Numbers(SEED);
+    let mut any_part = || if numbers.draw(0, 7) == 0 { 0.0 } else { numbers.draw(0, 999_999) as f64 / 1e6 };
+    points.iter().map(|&(scale, e, n)| (scale, (e as f64 + any_part()) / 1000.0, (n as f64 - any_part()) / 1000.0)).collect()
 }
 
 /// As many sheets as a list may have, in three steps of size: most follow closely, some lie further on, a few far.
@@ -140,6 +149,20 @@ fn rust_sheet_at(&(scale, e, n): &(u32, i64, i64)) -> (u32, u64) {
 fn our_sheet_at(&(scale, e, n): &(u32, i64, i64)) -> (u32, u64) {
     let mut value = 0;
     let status = unsafe { qubathimi_sheet_at(scale, e, n, &mut value) };
+    (status, value)
+}
+
+#[inline(never)]
+fn rust_sheet_at_metres(&(scale, e, n): &(u32, f64, f64)) -> (u32, u64) {
+    match sheets::sheet_at_metres(scale, e, n) {
+        Ok(sheet) => (0, sheet as u64),
+        Err(why) => (why, 0),
+    }
+}
+
+fn our_sheet_at_metres(&(scale, e, n): &(u32, f64, f64)) -> (u32, u64) {
+    let mut value = 0;
+    let status = unsafe { qubathimi_sheet_at_metres(scale, e, n, &mut value) };
     (status, value)
 }
 
@@ -260,9 +283,15 @@ fn main() {
     both.race("label writing", &named, 1, LONGEST_LABEL, |&q, r| our_write_label(q, r), |&q, r| rust_write_label(q, r));
 
     let mut points = points(numbers);
+    let mut metres = in_metres(&points);
     both.race("point to sheet, scales mixed", &points, 1, 0, |q, _: &mut [u8]| our_sheet_at(q), |q, _| rust_sheet_at(q));
     points.sort_by_key(|&(scale, _, _)| scale);
     both.race("point to sheet, scale by scale", &points, 1, 0, |q, _: &mut [u8]| our_sheet_at(q), |q, _| rust_sheet_at(q));
+
+    let (ours, rust) = (our_sheet_at_metres, rust_sheet_at_metres);
+    both.race("point in metres to sheet, scales mixed", &metres, 1, 0, |q, _: &mut [u8]| ours(q), |q, _| rust(q));
+    metres.sort_by_key(|&(scale, _, _)| scale);
+    both.race("point in metres to sheet, scale by scale", &metres, 1, 0, |q, _: &mut [u8]| ours(q), |q, _| rust(q));
 
     let large: Vec<Vec<u32>> = (0..LARGE_SETS).map(|_| large_set(numbers)).collect();
     let small: Vec<Vec<u32>> = (0..SMALL_SETS).map(|_| small_set(numbers)).collect();

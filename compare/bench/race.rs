@@ -34,7 +34,7 @@ fn time(program: &str, lines: &str) -> i64 {
 }
 
 fn told(what: &str, ours: f64, rust: f64) {
-    println!("{what:<30} {ours:>9.1} ns {rust:>9.1} ns {:>12.2}", ours / rust);
+    println!("{what:<42} {ours:>9.1} ns {rust:>9.1} ns {:>12.2}", ours / rust);
 }
 
 fn main() {
@@ -64,7 +64,7 @@ fn main() {
         }
     }
 
-    println!("{:<30} {:>12} {:>12} {:>12}", "", "ours", "Rust", "ours / Rust");
+    println!("{:<42} {:>12} {:>12} {:>12}", "", "ours", "Rust", "ours / Rust");
     told("whole program, a line", ours as f64 * 1000.0 / count, rust as f64 * 1000.0 / count);
     for (what, ours, rust) in least {
         told(&what, ours, rust);

@@ -1,4 +1,4 @@
-//! The definition in plain Rust, for its time alone: labels, points and shelf lists.
+//! The definition in plain Rust, for its time alone: labels, points, also in metres, and shelf lists.
 //!
 //! Written as a careful Rust programmer would write it: one table, one pass over the bytes, no allocation. A refusal is its number, with
 //! the room needed beside it where lent room can be too short. Each program here uses a part of it.
@@ -200,6 +200,47 @@ pub fn sheet_at(scale: u32, e: i64, n: i64) -> Result<u32, u32> {
         s = &SCALES[made.above];
     }
     Ok(number + weight * (row * s.columns + column))
+}
+
+const FRACTION: u64 = (1 << 52) - 1;
+const NO_NUMBER: u64 = 2_047;
+/// The exponent with which the fraction and the one before it are the number itself.
+const WHOLE: u64 = 1_075;
+
+/// A float that is neither infinite nor no number, in thousandths, from its bits: rounded down, or where `UP` is wanted up. None beyond 64
+/// bits.
+fn thousandths<const UP: bool>(bits: u64) -> Option<i64> {
+    let exponent = bits >> 52 & NO_NUMBER;
+    let minus = bits >> 63 != 0;
+    // 53 bits at most, so the product has no more than 63.
+    let product = (if exponent == 0 { bits & FRACTION } else { bits & FRACTION | 1 << 52 }) * 1_000;
+    let size = if exponent >= WHOLE {
+        let shift = (exponent - WHOLE) as u32;
+        // The product is above 2^61, so two places further up it never fits.
+        if shift > 1 || product > i64::MAX as u64 >> shift {
+            return None;
+        }
+        product << shift
+    } else {
+        let shift = (WHOLE - exponent.max(1)) as u32;
+        let (size, rest) = if shift < 64 { (product >> shift, product & ((1 << shift) - 1)) } else { (0, product) };
+        size + (rest != 0 && UP != minus) as u64
+    };
+    Some(if minus { -(size as i64) } else { size as i64 })
+}
+
+pub fn sheet_at_metres(scale: u32, e: f64, n: f64) -> Result<u32, u32> {
+    if !(1..=9).contains(&scale) {
+        return Err(2);
+    }
+    let (e, n) = (e.to_bits(), n.to_bits());
+    if e >> 52 & NO_NUMBER == NO_NUMBER || n >> 52 & NO_NUMBER == NO_NUMBER {
+        return Err(18);
+    }
+    match (thousandths::<false>(e), thousandths::<true>(n)) {
+        (Some(e), Some(n)) => sheet_at(scale, e, n),
+        _ => Err(1),
+    }
 }
 
 // ---- shelf lists

@@ -1,6 +1,7 @@
 // The lines of the input, and the kinds of question.
 use crate::labels;
 use crate::lists;
+use crate::metres;
 use crate::sheets;
 use crate::write;
 use crate::write::OUT;
@@ -54,6 +55,14 @@ fn other(kind: u8, s: &[u8]) {
         b'h' => lists::heads(s),
         b'v' => lists::vary(s),
         b'm' => lists::many(s),
+        _ => in_metres(kind, s),
+    }
+}
+
+fn in_metres(kind: u8, s: &[u8]) {
+    match kind {
+        b'q' => metres::quad(s),
+        b'u' => metres::under(s),
         _ => none(),
     }
 }

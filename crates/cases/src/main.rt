@@ -4,6 +4,7 @@
 mod ask;
 mod labels;
 mod lists;
+mod metres;
 mod part;
 mod read;
 mod room;

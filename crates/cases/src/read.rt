@@ -75,6 +75,24 @@ fn joined(minus: bool, n: u64) -> i64 {
     x
 }
 
+// The same as a float, told by its bits: those below the sign as a number, and a minus for the sign.
+pub(crate) fn float(s: &[u8], spaces: usize) -> f64 {
+    let n = number(s, spaces);
+    let size = of_bits(n.size);
+    if n.minus {
+        return -size;
+    }
+    size
+}
+
+// No number where the bits are of none.
+fn of_bits(bits: u64) -> f64 {
+    if bits > 0x7ff0_0000_0000_0000 {
+        return 0.0 / 0.0;
+    }
+    f64::from_bits(bits)
+}
+
 // The bytes behind the last space, two hexadecimal digits each, and how many they are.
 pub(crate) fn bytes(s: &[u8], places: &mut [u8; BYTES]) -> usize {
     let mut digits: usize = 0;

@@ -87,6 +87,14 @@ pub(crate) fn signed(to: u64, x: i64) -> u64 {
     }
 }
 
+// A float by its bits, and a hyphen for no number.
+pub(crate) fn float(to: u64, x: f64) -> u64 {
+    if x != x {
+        return text(to, b" -");
+    }
+    number(to, f64::to_bits(x))
+}
+
 // The refusal's number, and the room needed where it carries one.
 pub(crate) fn refused(to: u64, r: Refusal) -> u64 {
     let n = r.numbered();

@@ -6,6 +6,7 @@ pub mod kin;
 pub mod labels;
 pub mod lines;
 pub mod lists;
+pub mod metres;
 pub mod scales;
 pub mod sheets;
 mod tell;
