@@ -3,25 +3,24 @@
 use mathlib.Core.Path.{_≡_, refl, sym, ap, _∙_, subst}
 use mathlib.Core.Bool.{Bool, true, false, not, cond}
 use mathlib.Core.Logic.{_⊎_, inl, inr}
-use Prim.Native.Nat.{ℕ, zero, suc, _+_, _-_, _*_, _/_, _%_, _^_, _≤_, _<_}
+use Prim.Native.Nat.{ℕ, zero, suc, _+_, _-_, _*_, _%_, _^_, _≤_, _<_}
 use native.Mathlib.Nat.{mul-assoc, mul-right-comm, eq-of-mul-eq-mul-right}
 use native.Mathlib.Omega.{arith}
-use borrow.Author.Tests.{le-leb, lt-leb, leb-true, leb-false, lt-ltb, le-ltb}
-use lib.Dec.{T, leb, ltb, eqb, eqb→eq, eqb·suc-zero, not-T}
-use lib.IntN.{ℤ, pos, negsuc, negℤ}
+use borrow.Author.Tests.{leb-true, leb-false, lt-ltb, le-ltb}
+use lib.Dec.{T, ltb, eqb, eqb→eq, eqb·suc-zero, not-T}
+use lib.IntN.{ℤ, negℤ}
 use lib.Signed.{shrZ}
 use lib.Pow.{pow-add, pow-pos}
 use lib.Ieee.{Float, nan, inf, fin, binary64, up, down, odd, fits, isNan, ofFields, ofBits, toBits, ne}
 use lib.Ieee.Fits.{down-pos}
 use lib.Ieee.Compare.{differs-from-itself, nan-differs}
-use lib.Ieee.Bits.{ofBits-toBits, toBits-lt, cond-no}
+use lib.Ieee.Bits.{ofBits-toBits, cond-no}
 use lib.Ieee.Exact.{HasValue, odd-sign}
 use Rattle.refusal.specs.Paper.{answer, isAnswer}
-use Rattle.refusal.proofs.PaperLaws.{same-answer}
 use Rattle.division.specs.Words.{_≤?_, _=?_}
 use Rattle.division.proofs.TestLaws.{le-or-less}
-use Rattle.frame.specs.Exact.{Fraction, signed, exactly, floor, ceiling, downward, upward}
-use Rattle.frame.specs.Given.{isBelow, exponentIn, mantissaIn, placesIn, isNear, Near}
+use Rattle.frame.specs.Exact.{Fraction, signed, exactly, downward, upward}
+use Rattle.frame.specs.Given.{isMinus, exponentIn, mantissaIn, placesIn, InReach}
 use Rattle.frame.proofs.FractionLaws.{shr-same, shr-capped}
 use Rattle.frame.proofs.SignLaws.{kept, keep, abs-neg, neg-signed, signed-fits, shifted-small, shifted-kept}
 
@@ -140,47 +139,47 @@ module _ (x : Float) (F : fits binary64 x ≡ true) where
   abbrev bits : ℕ
   bits = toBits binary64 x
 
-  is-fields : x ≡ ofFields binary64 (isBelow bits) (exponentIn bits) (bits % 2 ^ 52)
+  is-fields : x ≡ ofFields binary64 (isMinus bits) (exponentIn bits) (bits % 2 ^ 52)
   unfolding ofBits
   is-fields = sym (ofBits-toBits binary64 x (subst T (sym F) tt))
 
-  pub has-value : (exponentIn bits ≡ 2047 → ⊥) → HasValue x (isBelow bits) (mantissaIn bits * 2 ^ (exponentIn bits - 1)) (2 ^ 1074)
+  pub has-value : (exponentIn bits ≡ 2047 → ⊥) → HasValue x (isMinus bits) (mantissaIn bits * 2 ^ (exponentIn bits - 1)) (2 ^ 1074)
   has-value h =
-      subst (λ (y : Float). HasValue y (isBelow bits) (mantissaIn bits * 2 ^ (exponentIn bits - 1)) (2 ^ 1074)) (sym is-fields) (by-fields (isBelow bits) (exponentIn bits) (bits % 2 ^ 52) h)
+      subst (λ (y : Float). HasValue y (isMinus bits) (mantissaIn bits * 2 ^ (exponentIn bits - 1)) (2 ^ 1074)) (sym is-fields) (by-fields (isMinus bits) (exponentIn bits) (bits % 2 ^ 52) h)
 
   -- an exponent of all ones is that of the infinities and of no number
   pub number-told : ltb (exponentIn bits) 2_047 ≡ isAnswer (exactly x)
   number-told = by (le-or-less (exponentIn bits) 2_046)
     where
       by : (exponentIn bits ≤ 2_046) ⊎ (2_046 < exponentIn bits) → ltb (exponentIn bits) 2_047 ≡ isAnswer (exactly x)
-      by (inl h) = lt-ltb (exponentIn bits) 2_047 (omega arith) ∙ sym (valued x (isBelow bits) (mantissaIn bits * 2 ^ (exponentIn bits - 1)) (2 ^ 1074) (has-value λ e. omega arith))
+      by (inl h) = lt-ltb (exponentIn bits) 2_047 (omega arith) ∙ sym (valued x (isMinus bits) (mantissaIn bits * 2 ^ (exponentIn bits - 1)) (2 ^ 1074) (has-value λ e. omega arith))
       by (inr h) =
           let top : exponentIn bits ≡ 2_047 = omega arith in
           le-ltb (exponentIn bits) 2_047 (omega arith)
-          ∙ sym (ap (λ (y : Float). isAnswer (exactly y)) (is-fields ∙ ap (λ (f : ℕ). ofFields binary64 (isBelow bits) f (bits % 2 ^ 52)) top) ∙ at-top (isBelow bits) (bits % 2 ^ 52))
+          ∙ sym (ap (λ (y : Float). isAnswer (exactly y)) (is-fields ∙ ap (λ (f : ℕ). ofFields binary64 (isMinus bits) f (bits % 2 ^ 52)) top) ∙ at-top (isMinus bits) (bits % 2 ^ 52))
 
-  module _ (n : Near x) where
-    near : exponentIn bits ≤ 1_075
-    near = leb-true (exponentIn bits) 1_075 (n .near)
+  module _ (n : InReach x) where
+    reached : exponentIn bits ≤ 1_075
+    reached = leb-true (exponentIn bits) 1_075 (n .reached)
 
-    all : Shifts x (isBelow bits) (mantissaIn bits) (1074 - (exponentIn bits - 1))
-    all = shifts x (mantissaIn bits) (1074 - (exponentIn bits - 1)) (fewer x (isBelow bits) (mantissaIn bits) (exponentIn bits - 1) (omega (arith, near)) (has-value λ e. omega (arith, near)))
+    all : Shifts x (isMinus bits) (mantissaIn bits) (1074 - (exponentIn bits - 1))
+    all = shifts x (mantissaIn bits) (1074 - (exponentIn bits - 1)) (fewer x (isMinus bits) (mantissaIn bits) (exponentIn bits - 1) (omega (arith, reached)) (has-value λ e. omega (arith, reached)))
 
-    down-is : answer (shrZ (signed (isBelow bits) (mantissaIn bits * 1_000)) (2 ^ placesIn bits)) ≡ downward x
+    down-is : answer (shrZ (signed (isMinus bits) (mantissaIn bits * 1_000)) (2 ^ placesIn bits)) ≡ downward x
     unfolding downward
-    down-is = rw (all .number) (ap answer (far-enough (isBelow bits) (mantissaIn bits * 1_000) (exponentIn bits) (small bits) near ∙ sym (all .down)))
+    down-is = rw (all .number) (ap answer (far-enough (isMinus bits) (mantissaIn bits * 1_000) (exponentIn bits) (small bits) reached ∙ sym (all .down)))
 
-    up-is : answer (negℤ (shrZ (signed (not (isBelow bits)) (mantissaIn bits * 1_000)) (2 ^ placesIn bits))) ≡ upward x
+    up-is : answer (negℤ (shrZ (signed (not (isMinus bits)) (mantissaIn bits * 1_000)) (2 ^ placesIn bits))) ≡ upward x
     unfolding upward
-    up-is = rw (all .number) (ap (λ (z : ℤ). answer (negℤ z)) (far-enough (not (isBelow bits)) (mantissaIn bits * 1_000) (exponentIn bits) (small bits) near ∙ sym (all .up)))
+    up-is = rw (all .number) (ap (λ (z : ℤ). answer (negℤ z)) (far-enough (not (isMinus bits)) (mantissaIn bits * 1_000) (exponentIn bits) (small bits) reached ∙ sym (all .up)))
 
     -- as the machine has it
-    pub down-shifted : {over : ℤ} {k : ℕ} → over ≡ signed (isBelow bits) (mantissaIn bits * 1_000) → k ≡ placesIn bits → answer (kept (shrZ (kept over) (2 ^ k))) ≡ downward x
-    down-shifted e f = ap answer (shifted-kept (isBelow bits) (mantissaIn bits * 1_000) (small bits) e f) ∙ down-is
+    pub down-shifted : {over : ℤ} {k : ℕ} → over ≡ signed (isMinus bits) (mantissaIn bits * 1_000) → k ≡ placesIn bits → answer (kept (shrZ (kept over) (2 ^ k))) ≡ downward x
+    down-shifted e f = ap answer (shifted-kept (isMinus bits) (mantissaIn bits * 1_000) (small bits) e f) ∙ down-is
 
-    pub up-shifted : {over r : ℤ} {k : ℕ} → over ≡ signed (not (isBelow bits)) (mantissaIn bits * 1_000) → k ≡ placesIn bits → r ≡ negℤ (kept (shrZ (kept over) (2 ^ k))) → answer (kept r) ≡ upward x
+    pub up-shifted : {over r : ℤ} {k : ℕ} → over ≡ signed (not (isMinus bits)) (mantissaIn bits * 1_000) → k ≡ placesIn bits → r ≡ negℤ (kept (shrZ (kept over) (2 ^ k))) → answer (kept r) ≡ upward x
     up-shifted e f g =
-        let s = not (isBelow bits) in
+        let s = not (isMinus bits) in
         let m = mantissaIn bits * 1_000 in
         let q = shrZ (signed s m) (2 ^ placesIn bits) in
         ap answer (ap kept (g ∙ ap negℤ (shifted-kept s m (small bits) e f)) ∙ keep (negℤ q) (rw (abs-neg q) (shifted-small s m (small bits) (2 ^ placesIn bits)))) ∙ up-is

@@ -1,8 +1,8 @@
 -- A float of 2 ^ 53 metres or more in size lies outside the area, whichever way it is rounded. Assumes nothing.
-use mathlib.Core.Path.{_≡_, refl, sym, ap, _∙_, subst}
+use mathlib.Core.Path.{_≡_, refl, sym, ap, _∙_}
 use mathlib.Core.Bool.{Bool, true, false, cond, _&&_}
 use Prim.Native.Nat.{ℕ, zero, suc, _+_, _-_, _*_, _/_, _%_, _^_, _≤_, _<_}
-use native.Mathlib.Nat.{le-trans, le-of-eq, mul-assoc, mul-comm, mul-right-comm, mul-le-mul-left, mul-le-mul-right, le-of-mul-le-mul-right, le-div-iff-mul-le, suc-mul}
+use native.Mathlib.Nat.{le-trans, le-of-eq, mul-right-comm, mul-le-mul-left, mul-le-mul-right, le-of-mul-le-mul-right, le-div-iff-mul-le}
 use native.Mathlib.Omega.{arith}
 use borrow.Author.Tests.{lt-leb, le-ltb, leb-false, ltb-true}
 use lib.Dec.{eqb·suc-zero}
@@ -16,11 +16,11 @@ use Rattle.refusal.specs.Paper.{answer, isAnswer}
 use Rattle.division.specs.Words.{_=?_, _≤ᶻ_, _<ᶻ_}
 use Rattle.division.specs.Grid.{area, owns}
 use Rattle.frame.specs.Exact.{Fraction, signed, exactly, floor, ceiling}
-use Rattle.frame.specs.Given.{isBelow, exponentIn, mantissaIn, isNear}
+use Rattle.frame.specs.Given.{isMinus, exponentIn, mantissaIn, inReach}
 use Rattle.frame.proofs.SignLaws.{abs-neg, abs-signed}
 use Rattle.frame.proofs.BitLaws.{has-value, number-told}
 
--- ten million kilometres in millimetres, and more
+-- ten thousand kilometres or more, in millimetres
 abbrev pub Far : ℤ → Type 0
 Far z = 10_000_000_000 ≤ natAbs z
 
@@ -91,10 +91,10 @@ leading : (f t : ℕ) → 0 < f → 2 ^ 52 ≤ cond (f =? 0) 0 (2 ^ 52) + t
 leading zero t h = absurd (omega arith)
 leading (suc f) t h = rw (eqb·suc-zero f) (omega arith)
 
-pub not-near : (x : Float) → fits binary64 x ≡ true → isAnswer (exactly x) ≡ true → isNear x ≡ false → FarOff x
-not-near x F number far =
+pub out-of-reach : (x : Float) → fits binary64 x ≡ true → isAnswer (exactly x) ≡ true → inReach x ≡ false → FarOff x
+out-of-reach x F number far =
     let bits = toBits binary64 x in
     let f = exponentIn bits in
     let h : 1_075 < f = leb-false f 1_075 far in
     let k : f < 2_047 = ltb-true f 2_047 (number-told x F ∙ number) in
-    far-off x (isBelow bits) (mantissaIn bits) (f - 1) (leading f (bits % 2 ^ 52) (omega arith)) (omega arith) (has-value x F λ e. omega arith)
+    far-off x (isMinus bits) (mantissaIn bits) (f - 1) (leading f (bits % 2 ^ 52) (omega arith)) (omega arith) (has-value x F λ e. omega arith)

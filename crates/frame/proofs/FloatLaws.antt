@@ -1,4 +1,4 @@
--- Sums and halves of floats that are whole numbers are exact, as long as the sum is at most 2 ^ 53. Assumes nothing.
+-- Sums of floats that are whole numbers, and halves of even ones, are exact as long as the sum is at most 2 ^ 53. Assumes nothing.
 use mathlib.Core.Path.{_≡_, sym, ap, _∙_}
 use mathlib.Core.Bool.{true≢false, false, true}
 use Prim.Native.Nat.{ℕ, _+_, _*_, _/_, _%_, _^_, _≤_}

@@ -54,7 +54,7 @@ neg-neg zero a = sym (lt-leb (suc a) 0 (omega arith))
 neg-neg (suc n) a = same-leb a n (suc a) (suc n) (λ h. omega arith) (λ h. omega arith)
 
 -- a whole number is at or below the floor exactly if it is at or below the fraction
-at-floor : (z over : ℤ) (d : ℕ) → 0 < d → leZ z (shrZ over d) ≡ leZ (z *ℤ pos d) over
+pub at-floor : (z over : ℤ) (d : ℕ) → 0 < d → leZ z (shrZ over d) ≡ leZ (z *ℤ pos d) over
 at-floor (pos k) (pos a) d D = same-leb k (a / d) (k * d) a (λ h. le-div-iff-mul-le D .0 h) (λ h. le-div-iff-mul-le D .1 h)
 at-floor (pos k) (negsuc a) d D = refl
 at-floor (negsuc k) (pos a) d D = sym (neg-pos (suc k * d) a)
@@ -63,7 +63,7 @@ at-floor (negsuc k) (negsuc a) d D =
     ∙ sym (neg-neg (suc k * d) a)
 
 -- and the ceiling is at or below a whole number exactly if the fraction is
-at-ceiling : (z over : ℤ) (d : ℕ) → 0 < d → leZ (negℤ (shrZ (negℤ over) d)) z ≡ leZ over (z *ℤ pos d)
+pub at-ceiling : (z over : ℤ) (d : ℕ) → 0 < d → leZ (negℤ (shrZ (negℤ over) d)) z ≡ leZ over (z *ℤ pos d)
 at-ceiling z over d D =
     neg-turns (shrZ (negℤ over) d) z ∙ at-floor (negℤ z) (negℤ over) d D ∙ ap (λ (y : ℤ). leZ y (negℤ over)) (neg-times z d)
     ∙ neg-order (z *ℤ pos d) over

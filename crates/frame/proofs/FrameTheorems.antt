@@ -21,11 +21,11 @@ use Rattle.division.proofs.GroundTheorems.{as-wide, as-high}
 use Rattle.division.proofs.MetreLaws.{ground-hundreds, corners-ground}
 use Rattle.frame.specs.declared.Frame.{Frame}
 use Rattle.frame.specs.Exact.{signed, exactly, floor, ceiling}
-use Rattle.frame.specs.Metres.{metres, half, frameOn, frameOf, sheetAtMetres}
+use Rattle.frame.specs.Metres.{metres, half, frameOn, frameOf, sheetAtMetres, frameAtMetres}
 use Rattle.frame.specs.Given.{Hundreds, AllHundreds}
 use Rattle.frame.specs.Theorems.{IsExactly, ExactFrame}
 use Rattle.frame.proofs.FractionLaws.{rounded-owned, whole-owned}
-use Rattle.frame.proofs.PointTheorems.{some-under, rounded}
+use Rattle.frame.proofs.PointTheorems.{some-under, rounded, answered}
 use Rattle.frame.proofs.FloatLaws.{float, whole-exact}
 use Rattle.frame.proofs.HundredLaws.{in-metres, middle-in-metres, all-hundreds}
 
@@ -77,6 +77,11 @@ frame-exact sheet h =
         middle-n = middle-exact (g .2) (g .3);
       },
     )
+
+-- so the frame that is answered for a point is exactly that of the sheet that is answered
+pub point-framed : (s : ℕ) (e n : Float) {k : ℕ} → sheetAtMetres s e n ≡ answer k → (f : Frame) × (frameAtMetres s e n ≡ answer f) × ExactFrame (groundOf k) f
+unfolding frameAtMetres
+point-framed s e n {k} a = let g = frame-exact k (answered s e n a .4 .sheet) in (g .0, rw a (g .1), g .2)
 
 -- ---- from the frame back to the sheet
 

@@ -1,8 +1,8 @@
 -- Edges that are whole numbers of hundred metres are whole metres as floats, and so is the middle between two. Assumes nothing.
 use mathlib.Core.Path.{_≡_, sym, ap, _∙_}
-use Prim.Native.Nat.{ℕ, _+_, _*_, _/_, _%_, _≤_}
+use Prim.Native.Nat.{ℕ, _+_, _*_, _/_, _≤_}
 use native.Mathlib.Omega.{arith}
-use lib.IntN.{ℤ, pos, _+ℤ_}
+use lib.IntN.{ℤ, _+ℤ_}
 use lib.Ieee.{Float, binary64, add, div, ofBits}
 use mir.Syntax.{w64}
 use mir.Val.{toZ, ofZ}

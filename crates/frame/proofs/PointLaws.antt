@@ -6,32 +6,32 @@ use native.Mathlib.Omega.{arith}
 use lib.IntN.{ℤ}
 use lib.Ieee.{Float, binary64, fits}
 use Rattle.refusal.specs.Paper.{answer, refused, isAnswer}
+use Rattle.refusal.proofs.PaperLaws.{some-answer}
 use Rattle.division.specs.Table.{isScale}
-use Rattle.division.specs.Grid.{area, owns}
 use Rattle.division.specs.Sheet.{sheetAt}
-use Rattle.frame.specs.Exact.{Fraction, exactly, floor, ceiling, downward, upward}
+use Rattle.frame.specs.Exact.{exactly, floor, ceiling, downward, upward}
 use Rattle.frame.specs.Metres.{sheetAtMetres}
-use Rattle.frame.specs.Given.{isNear}
-use Rattle.frame.proofs.FarLaws.{FarOff, far-east, far-north, not-near}
-use Rattle.frame.proofs.PointTheorems.{some-value, rounded}
+use Rattle.frame.specs.Given.{inReach}
+use Rattle.frame.proofs.FarLaws.{far-east, far-north, out-of-reach}
+use Rattle.frame.proofs.PointTheorems.{rounded}
 
 -- two tests, one for each value
 pub pair : {a b p q : Bool} → a ≡ p → b ≡ q → (a && b) ≡ (p && q)
 pair {b = b} {p = p} e f = ap (λ (x : Bool). x && b) e ∙ ap (λ (x : Bool). p && x) f
 
 -- a value that is too large lies outside, whatever the other is
-pub not-near-refused : (s : ℕ) (e n : Float) → fits binary64 e ≡ true → fits binary64 n ≡ true → isScale s ≡ true → (isAnswer (exactly e) ≡ true) × (isAnswer (exactly n) ≡ true) → (isNear e && isNear n) ≡ false → sheetAtMetres s e n ≡ refused 1 0
+pub out-of-reach-refused : (s : ℕ) (e n : Float) → fits binary64 e ≡ true → fits binary64 n ≡ true → isScale s ≡ true → (isAnswer (exactly e) ≡ true) × (isAnswer (exactly n) ≡ true) → (inReach e && inReach n) ≡ false → sheetAtMetres s e n ≡ refused 1 0
 unfolding sheetAt
-not-near-refused s e n F G h k l = by (isNear e) (isNear n) refl refl l
+out-of-reach-refused s e n F G h k l = by (inReach e) (inReach n) refl refl l
   where
-    by : (a b : Bool) → isNear e ≡ a → isNear n ≡ b → (a && b) ≡ false → sheetAtMetres s e n ≡ refused 1 0
+    by : (a b : Bool) → inReach e ≡ a → inReach n ≡ b → (a && b) ≡ false → sheetAtMetres s e n ≡ refused 1 0
     by false b p q r =
-        let x = not-near e F (k .0) p in
-        let y = some-value (exactly n) (k .1) in
+        let x = out-of-reach e F (k .0) p in
+        let y = some-answer (exactly n) (k .1) in
         rounded e n (x .number) (y .1) s ∙ rw (h, far-east (floor (x .value)) (ceiling (y .0)) (x .down))
     by true false p q r =
-        let x = some-value (exactly e) (k .0) in
-        let y = not-near n G (k .1) q in
+        let x = some-answer (exactly e) (k .0) in
+        let y = out-of-reach n G (k .1) q in
         rounded e n (x .1) (y .number) s ∙ rw (h, far-north (floor (x .0)) (ceiling (y .value)) (y .up))
     by true true p q r = let z : _≡_ {A = ℕ} 0 1 = cc in absurd (omega arith)
 

@@ -1,15 +1,15 @@
 -- A point in floats gets the sheet in which its exact value lies, whichever scale, and 1 where that lies in none: it is rounded the way in
 -- which sheets own their edges, and no edge lies between a value and the whole millimetre that it is rounded to. Assumes nothing.
-use mathlib.Core.Path.{_≡_, refl, sym, ap, _∙_, subst}
+use mathlib.Core.Path.{_≡_, refl, sym, _∙_, subst}
 use mathlib.Core.Logic.{_↔_, _⊎_, ⊎-elim}
 use mathlib.Core.Bool.{Bool, true, false, _&&_}
-use Prim.Native.Nat.{ℕ, _*_, _^_, _≤_, _<_}
+use Prim.Native.Nat.{ℕ, _<_}
 use native.Mathlib.Omega.{arith}
-use lib.IntN.{ℤ, natAbs}
-use lib.Ieee.{Float, nan, inf, fin, down}
+use lib.IntN.{ℤ}
+use lib.Ieee.{Float, nan, inf, fin}
 use lib.Ieee.Fits.{down-pos}
 use Rattle.refusal.specs.Paper.{Paper, answer, refused, isAnswer, refuse_unless_, _>>_}
-use Rattle.refusal.proofs.PaperLaws.{same-answer, differs, passed}
+use Rattle.refusal.proofs.PaperLaws.{same-answer, some-answer, differs, passed}
 use Rattle.division.specs.Table.{isScale}
 use Rattle.division.specs.Grid.{area, owns, columnAt, rowAt}
 use Rattle.division.specs.Sheet.{groundOf, sheetOf, sheetAt}
@@ -38,10 +38,6 @@ no-number s (fin a b c) (inf d) h l = rw h
 no-number s (fin a b c) (fin p q r) h l = let z : _≡_ {A = ℕ} 0 1 = cc in absurd (omega arith)
 
 -- ---- numbers
-
-pub some-value : {A : Type 0} (p : Paper A) → isAnswer p ≡ true → (a : A) × (p ≡ answer a)
-some-value (answer a) h = (a, refl)
-some-value (refused n v) h = let z : _≡_ {A = ℕ} 0 1 = cc in absurd (omega arith)
 
 -- a scale is tested once and again
 scale-again : (s : ℕ) (e n : ℤ) → ((refuse 2 unless isScale s) >> sheetAt s e n) ≡ sheetAt s e n
@@ -101,7 +97,7 @@ answered s e n {k} a = by (isAnswer (exactly e) && isAnswer (exactly n)) refl
     by : (b : Bool) → (isAnswer (exactly e) && isAnswer (exactly n)) ≡ b → (x y : Fraction) × (exactly e ≡ answer x) × (exactly n ≡ answer y) × HoldsExactly s x y k
     by true h =
         let t = both (isAnswer (exactly e)) (isAnswer (exactly n)) h in
-        let x = some-value (exactly e) (t .0) in
-        let y = some-value (exactly n) (t .1) in
+        let x = some-answer (exactly e) (t .0) in
+        let y = some-answer (exactly n) (t .1) in
         (x .0, y .0, x .1, y .1, holds e n (x .1) (y .1) (answers-holds (floor (x .0)) (ceiling (y .0)) (sym (rounded e n (x .1) (y .1) s) ∙ a)))
     by false h = absurd (differs (sym a ∙ no-number s e n (passed 2 (isScale s) _ a .0) h))

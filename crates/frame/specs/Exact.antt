@@ -15,11 +15,12 @@ abbrev pub signed : Bool → ℕ → ℤ
 signed false size = pos size
 signed true size = negℤ (pos size)
 
--- "18, a value that is infinite or no number". Any other is a mantissa times a power of two, which is up / down: in millimetres
+-- "18, a value that is infinite or no number". Any other is mantissa × 2 ^ power metres, and 2 ^ power is up power / down power, one of
+-- which is 1; times 1 000 that is millimetres
 unfoldable pub exactly : Float → Paper Fraction
 exactly nan = refused 18 0
-exactly (inf below) = refused 18 0
-exactly (fin below mantissa power) = answer (record { over = signed below (mantissa * up power * 1_000); under = down power })
+exactly (inf minus) = refused 18 0
+exactly (fin minus mantissa power) = answer (record { over = signed minus (mantissa * up power * 1_000); under = down power })
 
 -- the last whole number at or below a fraction (`shrZ` divides and rounds down), and the first at or above it
 abbrev pub floor : Fraction → ℤ

@@ -10,7 +10,8 @@ use Rattle.division.specs.Sheet.{sheetAt, cornersOf}
 use Rattle.frame.specs.declared.Frame.{Frame}
 use Rattle.frame.specs.Exact.{downward, upward}
 
--- millimetres as a float of whole metres
+-- millimetres as a float of whole metres, and half a sum; of a sheet's edges neither leaves anything over (proofs/FrameTheorems,
+-- `frame-exact`)
 abbrev pub metres : ℤ → Float
 metres millimetres = ofInt binary64 (shrZ millimetres 1_000)
 

@@ -31,7 +31,7 @@ ownsExactly w e n =
 abbrev pub TooLarge : Fraction → Type 0
 TooLarge x = 2 ^ 63 * x .under ≤ natAbs (x .over)
 
--- sheet k is of scale s, and the exact point lies in it
+-- "in the same sheet as the float's exact value": sheet k is of scale s, and the exact point lies in it
 pub record HoldsExactly (s : ℕ) (e n : Fraction) (k : ℕ) : Type 0 where
   pub sheet : isSheet k ≡ true
   pub scale : scaleOf k ≡ s
@@ -45,7 +45,7 @@ pub record IsExactly (x : Float) (mm : ℤ) : Type 0 where
   pub number : exactly x ≡ answer value
   pub same : IsWhole value mm
 
--- and so is each field of a frame; the middle is half the sum of the edges, and nothing is left over
+-- "with the middle as half the sum of the edges, all exact": so is each field of a frame, and twice the middle is the sum
 pub record ExactFrame (ground : Edges) (f : Frame) : Type 0 where
   pub west : IsExactly (f .west) (ground .west)
   pub east : IsExactly (f .east) (ground .east)

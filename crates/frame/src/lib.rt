@@ -1,8 +1,9 @@
 // Frames and points in metres, as 64-bit floats (document 02, a).
 //
-// Every edge of a sheet is a whole number of hundred metres, which a float holds exactly, and so is the middle of two. A point in floats
-// lies in the sheet in which its exact value lies, mantissa times power of two: it is rounded to whole millimetres by the float's bits, the
-// east value down and the north value up, which is the way in which a sheet owns its west and north edge. No float arithmetic is done on it.
+// Every edge of a sheet is a whole number of hundred metres, and the middle between two a whole number of fifty: a float holds either
+// exactly. A point in floats lies in the sheet in which its exact value, a mantissa times a power of two, lies. It is rounded to whole
+// millimetres by the float's own bits, without float arithmetic: the east value down and the north value up, since a sheet owns its west and
+// north edge.
 use refusal::Refusal;
 
 pub mod metres;

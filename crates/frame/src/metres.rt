@@ -2,7 +2,7 @@
 use crate::Frame;
 use crate::Framed;
 use crate::millimetres::down;
-use crate::millimetres::is_near;
+use crate::millimetres::in_reach;
 use crate::millimetres::is_number;
 use crate::millimetres::up;
 use division::Corners;
@@ -55,7 +55,7 @@ pub fn frame_of(sheet: u32) -> Framed
     }
 }
 
-// The sheet of a scale in which a point lies, in metres.
+// The sheet of a scale in which a point in metres lies.
 pub fn sheet_at_metres(scale: u32, e: f64, n: f64) -> Found
     ensures { λ r. ⌜ sheetPaper r ≡ sheetAtMetres scale e n ⌝ }
 {
@@ -65,11 +65,15 @@ pub fn sheet_at_metres(scale: u32, e: f64, n: f64) -> Found
     if !(is_number(e) & is_number(n)) {
         return Found::Refused(Refusal::NoNumber);
     }
-    // too large for 64-bit millimetres, and so outside the area
-    if !(is_near(e) & is_near(n)) {
+    // 2^53 metres or more in size, a little before 64-bit millimetres end: outside the area
+    if !(in_reach(e) & in_reach(n)) {
         return Found::Refused(Refusal::PointOutside);
     }
-    sheet_at(scale, down(e), up(n))
+    // hand the answer on by its parts: to copy it whole can cost as much as to find it
+    match sheet_at(scale, down(e), up(n)) {
+        Found::Sheet(sheet) => Found::Sheet(sheet),
+        Found::Refused(why) => Found::Refused(why),
+    }
 }
 
 // The frame of that sheet.

@@ -1,14 +1,15 @@
 // Whole millimetres from a float's own bits: the sign (the highest), eleven of the exponent, and the mantissa's fifty-two.
 //
-// A float that is a number is its mantissa, below 2^53, times a power of two: 2^(exponent - 1 075) metres. So its thousandfold fits 63 bits,
-// and shifting that by as many places makes millimetres of it. From an exponent of 1 076 on, 2^53 metres, there is nothing to shift.
+// A float that is a number is its mantissa, below 2^53, times a power of two: 2^(exponent - 1 075) metres, where an exponent of 0 counts as 1.
+// The mantissa's thousandfold fits 63 bits, and shifted right by 1 075 less the exponent it is millimetres. From 1 076 on, which is 2^53
+// metres, it would have to be shifted left, where 64 bits soon end; no such value is near the area.
 ghost use mathlib.Core.Path.{_≡_};
 ghost use mathlib.Core.Bool.{true};
 ghost use Prim.Native.Nat.{_*_, _^_, _≤_, _<_};
 ghost use lib.IntN.{natAbs, negℤ};
 ghost use Rattle.refusal.specs.Paper.{answer, isAnswer};
 ghost use Rattle.frame.specs.Exact.{signed, exactly, downward, upward};
-ghost use Rattle.frame.specs.Given.{isBelow, exponentIn, mantissaIn, placesIn, isNear, Near};
+ghost use Rattle.frame.specs.Given.{isMinus, exponentIn, mantissaIn, placesIn, inReach, InReach};
 
 fn exponent(bits: u64) -> u64
     ensures { λ r. ⌜ r ≡ exponentIn bits ⌝ }
@@ -36,7 +37,7 @@ fn minus(x: i64) -> i64
 
 // The mantissa's thousandfold, with the sign.
 fn thousandfold(bits: u64) -> i64
-    ensures { λ r. ⌜ r ≡ signed (isBelow bits) (mantissaIn bits * 1_000) ⌝ }
+    ensures { λ r. ⌜ r ≡ signed (isMinus bits) (mantissaIn bits * 1_000) ⌝ }
 {
     let size = (mantissa(bits) * 1_000) as i64;
     if bits >= 0x8000_0000_0000_0000 {
@@ -68,16 +69,16 @@ pub(crate) fn is_number(x: f64) -> bool
 }
 
 // Below 2^53 metres in size.
-pub(crate) fn is_near(x: f64) -> bool
+pub(crate) fn in_reach(x: f64) -> bool
     requires { ⌜ isAnswer (exactly x) ≡ true ⌝ }
-    ensures { λ r. ⌜ r ≡ isNear x ⌝ }
+    ensures { λ r. ⌜ r ≡ inReach x ⌝ }
 {
     exponent(f64::to_bits(x)) <= 1_075
 }
 
 // Down to a whole millimetre, and up. A shift of a signed number rounds down.
 pub(crate) fn down(x: f64) -> i64
-    requires { ⌜ Near x ⌝ }
+    requires { ⌜ InReach x ⌝ }
     ensures { λ r. ⌜ answer r ≡ downward x ⌝ }
 {
     let bits = f64::to_bits(x);
@@ -85,7 +86,7 @@ pub(crate) fn down(x: f64) -> i64
 }
 
 pub(crate) fn up(x: f64) -> i64
-    requires { ⌜ Near x ⌝ }
+    requires { ⌜ InReach x ⌝ }
     ensures { λ r. ⌜ answer r ≡ upward x ⌝ }
 {
     let bits = f64::to_bits(x);

@@ -75,6 +75,11 @@ no-answer A why = as-read (onPaper why) ∙ read-refusal (λ (x : A). true) (λ 
     as-read (answer x) = refl
     as-read (refused n v) = refl
 
+-- and what is no refusal is one
+pub some-answer : {A : Type 0} (p : Paper A) → isAnswer p ≡ true → (a : A) × (p ≡ answer a)
+some-answer (answer a) e = (a, refl)
+some-answer (refused n v) e = let z : _≡_ {A = ℕ} 0 1 = cc in absurd (omega arith)
+
 -- a refusal has one number, which is not 0, and one value, whatever was asked; where it carries none, the value is 0
 pub record OnPaper (why : Refusal) : Type 1 where
   pub number : ℕ

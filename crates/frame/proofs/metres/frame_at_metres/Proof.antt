@@ -1,7 +1,5 @@
 -- The frame of the sheet that is found. Assumes nothing.
-use mathlib.Core.Path.{_≡_}
 use borrow.Author.Needs.{needs}
-use Rattle.refusal.specs.Paper.{answer}
 use Rattle.refusal.proofs.PaperLaws.{asked-on}
 use Rattle.frame.specs.Metres.{frameOf, frameAtMetres}
 use Rattle.frame.proofs.metres.frame_at_metres.Statement.{statement}

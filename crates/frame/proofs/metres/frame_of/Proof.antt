@@ -1,7 +1,7 @@
 -- The corners of a sheet are hundreds of metres. Assumes nothing.
-use mathlib.Core.Path.{_≡_, ap, _∙_}
+use mathlib.Core.Path.{_≡_, ap}
 use borrow.Author.Needs.{needs}
-use Rattle.refusal.specs.Paper.{answer, _>>=_}
+use Rattle.refusal.specs.Paper.{answer}
 use Rattle.refusal.proofs.PaperLaws.{asked-on}
 use Rattle.division.specs.Sheet.{cornersOf}
 use Rattle.frame.specs.Metres.{frameOn, frameOf}

@@ -1,6 +1,5 @@
 -- Whole metres are added and halved without rounding. Assumes nothing.
 use mathlib.Core.Path.{_≡_, ap, _∙_}
-use borrow.Author.Needs.{needs}
 use Rattle.frame.specs.Metres.{metres}
 use Rattle.frame.proofs.HundredLaws.{middle-added, hundreds-kept, hundreds-again}
 use Rattle.frame.proofs.metres.frame_on.Statement.{statement}

@@ -1,15 +1,17 @@
 -- Past the tests both values are numbers below 2 ^ 53 metres; a larger one lies outside. Assumes nothing.
 use mathlib.Core.Path.{_≡_, sym, _∙_}
-use mathlib.Core.Bool.{true, _&&_}
+use mathlib.Core.Bool.{true}
 use borrow.Author.Needs.{needs}
 use Rattle.refusal.specs.Paper.{isAnswer}
 use Rattle.refusal.proofs.PaperLaws.{fails, holds}
 use Rattle.division.specs.Table.{isScale}
+use Rattle.division.specs.Answers.{sheetPaper}
 use Rattle.division.proofs.TestLaws.{both, returned}
 use Rattle.frame.specs.Exact.{exactly}
-use Rattle.frame.specs.Given.{isNear, Near}
+use Rattle.frame.specs.Metres.{sheetAtMetres}
+use Rattle.frame.specs.Given.{inReach, InReach}
 use Rattle.frame.proofs.PointTheorems.{no-scale, no-number}
-use Rattle.frame.proofs.PointLaws.{pair, not-near-refused, rounded-asked}
+use Rattle.frame.proofs.PointLaws.{pair, out-of-reach-refused, rounded-asked}
 use Rattle.frame.proofs.metres.sheet_at_metres.Statement.{statement}
 use Rattle.frame.proofs.metres.sheet_at_metres.Tie as tie
 
@@ -39,42 +41,55 @@ numbers c =
     let a = c .before .before .before .before .before .args in
     both (isAnswer (exactly (a .e))) (isAnswer (exactly (a .n))) (holds (pair (c .before .before .is-number .ensures) (c .before .is-number2 .ensures)) (c .if2 .left))
 
-is-near-requires : tie.Need-is-near-requires
-is-near-requires c κs = numbers c .0
+in-reach-requires : tie.Need-in-reach-requires
+in-reach-requires c κs = numbers c .0
 
-is-near-requires-2 : tie.Need-is-near-requires-2
-is-near-requires-2 c κs = numbers (c .before) .1
+in-reach-requires-2 : tie.Need-in-reach-requires-2
+in-reach-requires-2 c κs = numbers (c .before) .1
 
 returns-3 : tie.Need-returns-3
 returns-3 c =
     let a = c .before .before .before in
     let b = a .before .before .before .before .before in
-    sym (not-near-refused (b .args .scale) (b .args .e) (b .args .n) (b .good .1 .0 .1) (b .good .1 .1 .0 .1) (is-scale (a .before .before .before)) (numbers a) (fails (pair (c .before .before .is-near .ensures) (c .before .is-near2 .ensures)) (c .if3 .taken)))
+    sym (out-of-reach-refused (b .args .scale) (b .args .e) (b .args .n) (b .good .1 .0 .1) (b .good .1 .1 .0 .1) (is-scale (a .before .before .before)) (numbers a) (fails (pair (c .before .before .in-reach .ensures) (c .before .in-reach2 .ensures)) (c .if3 .taken)))
 
--- and near
-near : (c : tie.Else3) → let a = c .before .before .before .before .before .before .before .before .args in Near (a .e) × Near (a .n)
-near c =
+-- and in reach
+reached : (c : tie.Else3) → let a = c .before .before .before .before .before .before .before .before .args in InReach (a .e) × InReach (a .n)
+reached c =
     let a = c .before .before .before .before .before .before .before .before .args in
-    let b = both (isNear (a .e)) (isNear (a .n)) (holds (pair (c .before .before .is-near .ensures) (c .before .is-near2 .ensures)) (c .if3 .left)) in
+    let b = both (inReach (a .e)) (inReach (a .n)) (holds (pair (c .before .before .in-reach .ensures) (c .before .in-reach2 .ensures)) (c .if3 .left)) in
     let n = numbers (c .before .before .before) in
-    (record { number = n .0; near = b .0 }, record { number = n .1; near = b .1 })
+    (record { number = n .0; reached = b .0 }, record { number = n .1; reached = b .1 })
 
 down-requires : tie.Need-down-requires
-down-requires c κs = near c .0
+down-requires c κs = reached c .0
 
 up-requires : tie.Need-up-requires
-up-requires c κs = near (c .before) .1
+up-requires c κs = reached (c .before) .1
 
 sheet-at-requires : tie.Need-sheet-at-requires
 sheet-at-requires c κs = search needs
 
-returns-4 : tie.Need-returns-4
-returns-4 c =
+-- the rounded point's answer is the answer
+asked : (c : tie.After-sheet-at) → let a = c .before .before .before .before .before .before .before .before .before .before .before .args in sheetPaper (c .sheet-at .result) ≡ sheetAtMetres (a .scale) (a .e) (a .n)
+asked c =
     let u = c .before in
     let d = u .before in
     let a = d .before .before .before .before .before .before .before .before .before .args in
     c .sheet-at .ensures
     ∙ rounded-asked (a .scale) (a .e) (a .n) (is-scale (d .before .before .before .before .before .before .before)) (returned (d .down .result) (d .down .ok)) (returned (u .up .result) (u .up .ok)) (d .down .ensures) (u .up .ensures)
+
+enum-known-sheet : tie.Need-enum-known-sheet
+enum-known-sheet c = search needs
+
+enum-known-why : tie.Need-enum-known-why
+enum-known-why c = search needs
+
+returns-4 : tie.Need-returns-4
+returns-4 c = rw (c .before .sheet .given .1) at (asked (c .before .before .before))
+
+returns-5 : tie.Need-returns-5
+returns-5 c = rw (c .before .why .given .1) at (asked (c .before .before .before))
 
 pub sheet-at-metres-spec : {M : Type 1} → statement M
 sheet-at-metres-spec =
@@ -85,10 +100,13 @@ sheet-at-metres-spec =
     is-number-requires
     is-number-requires-2
     returns-2
-    is-near-requires
-    is-near-requires-2
+    in-reach-requires
+    in-reach-requires-2
     returns-3
     down-requires
     up-requires
     sheet-at-requires
-    returns-4)
+    enum-known-sheet
+    enum-known-why
+    returns-4
+    returns-5)

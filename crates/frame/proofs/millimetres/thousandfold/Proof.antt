@@ -7,7 +7,6 @@ use borrow.Author.Tests.{le-leb, lt-leb}
 use borrow.Author.Needs.{needs}
 use lib.IntN.{pos, negℤ}
 use Rattle.division.proofs.TestLaws.{unsigned}
-use Rattle.frame.specs.Given.{mantissaIn}
 use Rattle.frame.proofs.SignLaws.{signed-kept}
 use Rattle.frame.proofs.BitLaws.{small}
 use Rattle.frame.proofs.millimetres.thousandfold.Statement.{statement}

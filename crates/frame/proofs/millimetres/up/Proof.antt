@@ -7,18 +7,18 @@ use borrow.Author.Needs.{needs}
 use lib.IntN.{ℤ, negℤ, natAbs}
 use lib.Ieee.{binary64, toBits}
 use Rattle.frame.specs.Exact.{signed}
-use Rattle.frame.specs.Given.{isBelow, mantissaIn, placesIn}
+use Rattle.frame.specs.Given.{isMinus, mantissaIn, placesIn}
 use Rattle.frame.proofs.SignLaws.{neg-signed, signed-small, signed-kept, shifted-small, shifted-kept}
 use Rattle.frame.proofs.BitLaws.{some-number, small, few-places, up-shifted}
 use Rattle.frame.proofs.millimetres.up.Statement.{statement}
 use Rattle.frame.proofs.millimetres.up.Tie as tie
 
 -- the thousandfold's opposite
-turned : (c : tie.After-minus) → let bits = toBits binary64 (c .before .before .args .x) in c .minus .result ≡ signed (not (isBelow bits)) (mantissaIn bits * 1_000)
+turned : (c : tie.After-minus) → let bits = toBits binary64 (c .before .before .args .x) in c .minus .result ≡ signed (not (isMinus bits)) (mantissaIn bits * 1_000)
 turned c =
     let bits = toBits binary64 (c .before .before .args .x) in
     let m = mantissaIn bits * 1_000 in
-    c .minus .ensures ∙ ap negℤ (signed-kept (isBelow bits) m (small bits) (c .before .thousandfold .ensures)) ∙ neg-signed (isBelow bits) m
+    c .minus .ensures ∙ ap negℤ (signed-kept (isMinus bits) m (small bits) (c .before .thousandfold .ensures)) ∙ neg-signed (isMinus bits) m
 
 float-to-bits-bits : tie.Need-float-to-bits-bits
 float-to-bits-bits c = some-number (c .args .x) (c .pre .number)
@@ -30,7 +30,7 @@ minus-requires : tie.Need-minus-requires
 minus-requires c κs =
     let bits = toBits binary64 (c .before .args .x) in
     let m = mantissaIn bits * 1_000 in
-    subst (λ (z : ℤ). natAbs z < 2 ^ 63) (sym (signed-kept (isBelow bits) m (small bits) (c .thousandfold .ensures))) (signed-small (isBelow bits) m (small bits))
+    subst (λ (z : ℤ). natAbs z < 2 ^ 63) (sym (signed-kept (isMinus bits) m (small bits) (c .thousandfold .ensures))) (signed-small (isMinus bits) m (small bits))
 
 places-requires : tie.Need-places-requires
 places-requires c κs = search needs
@@ -44,7 +44,7 @@ shr-minus c = omega (arith, c .places .ensures, few-places (toBits binary64 (c .
 minus-requires-2 : tie.Need-minus-requires-2
 minus-requires-2 c κs =
     let bits = toBits binary64 (c .before .before .before .args .x) in
-    let s = not (isBelow bits) in
+    let s = not (isMinus bits) in
     let m = mantissaIn bits * 1_000 in
     subst (λ (z : ℤ). natAbs z < 2 ^ 63) (sym (shifted-kept s m (small bits) (turned (c .before)) (c .places .ensures))) (shifted-small s m (small bits) (2 ^ placesIn bits))
 
