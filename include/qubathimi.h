@@ -3,7 +3,7 @@
  * `rt staticlib qubathimi_c` proves the functions and writes target/staticlib/libqubathimi_c.a, for x86-64 Linux; link it with a program
  * that includes this header. Of the C library it calls memcpy and nothing else. It allocates nothing, needs no setting up and keeps
  * nothing between calls, so any number of them may run at once. examples/use.c shows it in use. docs/DEFINITION.md says what sheets,
- * labels and lists are; "document 01" is the definition that it tells of.
+ * labels and lists are; "document 01" and "document 02" are the papers that it tells of.
  *
  * The convention. Seven functions cannot refuse and have their answer as the result: qubathimi_width, _height, _rows, _columns, _first,
  * _last and _scale_of; and so has qubathimi_same_name, which is true or false. For all others:
@@ -46,7 +46,7 @@ extern "C" {
 #define QUBATHIMI_IN_LINE 0
 #define QUBATHIMI_IN_FALLBACK 1
 
-/* Document 01, "Numbers of refusal"; docs/REFUSALS.md says what to look at. */
+/* Document 01, "Numbers of refusal", and document 02 for 18; docs/REFUSALS.md says what to look at. */
 enum qubathimi_refusal {
     QUBATHIMI_POINT_OUTSIDE = 1,  /* point outside the area */
     QUBATHIMI_NO_SCALE = 2,       /* scale not 1 to 9 */
