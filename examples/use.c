@@ -1,6 +1,5 @@
 /* The library from C: a point's sheet, its label and its corners, a sheet's frame for a viewer, a cover, a catalogue line and a shelf list. */
 #include <inttypes.h>
-#include <math.h>
 #include <stdio.h>
 #include <stdlib.h>
 
@@ -56,7 +55,7 @@ static void viewer(void)
     answered(qubathimi_frame((uint32_t)sheet, &west, &east, &south, &north, &middle_e, &middle_n));
     printf("frame %.1f %.1f %.1f %.1f, middle %.1f %.1f\n", west, east, south, north, middle_e, middle_n);
     /* A value that is infinite or no number has no sheet under it. */
-    uint32_t status = qubathimi_frame_at_metres(3, INFINITY, 5000000.25, &west, &east, &south, &north, &middle_e, &middle_n);
+    uint32_t status = qubathimi_frame_at_metres(3, 1.0 / 0.0, 5000000.25, &west, &east, &south, &north, &middle_e, &middle_n);
     printf("refused %" PRIu32 "\n", status);
 }
 
