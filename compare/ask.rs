@@ -75,7 +75,7 @@ const KINDS: [(&str, usize, Room); 25] = [
 /// The kinds whose numbers are floats.
 const IN_METRES: [usize; 2] = [23, 25];
 /// The results that there are: 0, and the numbers of refusal.
-const RESULTS: usize = 19;
+const RESULTS: usize = 22;
 
 const GUARD: usize = 8;
 const NONE: u32 = u32::MAX;

@@ -10,8 +10,9 @@
 //! A line of crates/cases/stdin is a question: a word, of which crates/cases reads the first letter, and what follows. Sheets are told by
 //! their numbers, points and edges in millimetres, and bytes in hexadecimal. A float, of `quad` and `under` alone, is told by its bits:
 //! those below the sign as a whole number, with a minus in front where the sign is set, so that 4692333547057315840 is 500 000.0 and -0 is
-//! -0.0. The line of crates/cases/stdout is the question, a colon and the answer. A refusal is told by its number, and what it carries. Of
-//! more than forty bytes or sheets only the sum is told, and a sum is always one over the bytes that would be written.
+//! -0.0. The line of crates/cases/stdout is the question, a colon and the answer. A refusal is told by its number, and what it carries: 10
+//! the room needed, and 4, 19, 20, 21 and 5 the place in the label, also where it is 0. Of more than forty bytes or sheets only the sum is
+//! told, and a sum is always one over the bytes that would be written.
 //!
 //!     table 3                   of the scale: width and height in metres, first and last sheet; and the last scale and
 //!                               the last sheet of all
@@ -54,8 +55,8 @@
 //! edges by a millimetre and in metres by a float, the grids' ends, each scale's first and last sheet, each field's range, each length of a
 //! number in a list, room that just is enough, 4 096 and 4 097); extremes of 32 and 64 bits, and numbers that would look right if they lost
 //! their upper bits; the smallest and the largest floats, infinite ones and those that are no number; numbers that are no scale or no
-//! sheet; labels as the sources print them, with each kind of fault, and with strange bytes; lists that are cut, badly written, too long or
-//! wrongly counted; two faults at once, for the order of refusals; and some by chance.
+//! sheet; labels as the sources print them, with each kind of fault at each place, and with strange bytes; lists that are cut, badly
+//! written, too long or wrongly counted; two faults at once, for the order of refusals; and some by chance.
 //!
 //! The lines of compare/examples.txt are document 01's examples and cases of document 02, question and answer written out by hand: these
 //! answers are not asked of the paper, but must be its own.
@@ -65,7 +66,7 @@ mod numbers;
 mod paper;
 
 use numbers::Numbers;
-use paper::{scale_facts, scale_of, Answer, Division, Frame, Refusal, LAST_SHEET};
+use paper::{scale_facts, scale_of, Answer, Division, Frame, LAST_SHEET};
 use std::collections::{HashMap, HashSet};
 use std::fmt::Display;
 use std::fs;
@@ -94,15 +95,8 @@ fn stop(what: impl Display) -> ! {
 
 // ---- Answers in writing ----
 
-fn refused(refusal: Refusal) -> String {
-    match refusal.carries {
-        Some(value) => format!("refused {} {value}", refusal.number),
-        None => format!("refused {}", refusal.number),
-    }
-}
-
 fn told<T: Display>(answer: Answer<T>) -> String {
-    answer.map_or_else(refused, |value| value.to_string())
+    answer.map_or_else(|refusal| refusal.to_string(), |value| value.to_string())
 }
 
 fn spaced<T: Display>(parts: impl IntoIterator<Item = T>) -> String {
@@ -180,7 +174,7 @@ impl Paper {
     fn cover(&self, room: usize, scale: u32, window: Frame) -> String {
         match self.0.cover(scale, window, room) {
             Ok(sheets) => format!("{}{}", sheets.len(), listed(&sheets, room)),
-            Err(refusal) => format!("{} kept {room}", refused(refusal)),
+            Err(refusal) => format!("{refusal} kept {room}"),
         }
     }
 
@@ -195,7 +189,7 @@ impl Paper {
                 let text = String::from_utf8_lossy(label.text());
                 format!("{length}, {} {text} kept {} {}", text.len(), room - text.len(), self.label(label.text()))
             }
-            Err(refusal) => format!("{length}, {}  kept {room} {}", refused(refusal), self.label(b"")),
+            Err(refusal) => format!("{length}, {refusal}  kept {room} {}", self.label(b"")),
         }
     }
 
@@ -215,7 +209,7 @@ impl Paper {
         let length = told(self.0.list_length(sheets));
         let list = match self.0.write_list(sheets, room) {
             Ok(list) => list,
-            Err(refusal) => return format!("{length}, {}  kept {room}", refused(refusal)),
+            Err(refusal) => return format!("{length}, {refusal}  kept {room}"),
         };
         let (count, long) = (sheets.len(), list.len());
         let shown = if long > LISTED { format!("sum {}", summed([hexadecimal(&list)])) } else { hexadecimal(&list) };

@@ -8,13 +8,23 @@
 #![allow(dead_code)] // neither of the two asks for all of it
 
 use std::cmp::Ordering;
+use std::fmt;
 use std::ops::Range;
 
-/// A refusal: its number in the table "Numbers of refusal", and the value that it carries (10: the room needed; others: none).
+/// A refusal: its number in the table "Numbers of refusal", and the value that it carries (10: the room needed; 4, 19, 20, 21 and 5: a
+/// place in the label; others: none).
 #[derive(Clone, Copy, Debug, PartialEq, Eq)]
 pub struct Refusal {
     pub number: u32,
     pub carries: Option<u64>,
+}
+
+/// The word, the number, and behind it what the refusal carries.
+impl fmt::Display for Refusal {
+    fn fmt(&self, to: &mut fmt::Formatter) -> fmt::Result {
+        write!(to, "refused {}", self.number)?;
+        self.carries.map_or(Ok(()), |value| write!(to, " {value}"))
+    }
 }
 
 pub type Answer<T> = Result<T, Refusal>;
@@ -471,26 +481,71 @@ impl Division {
         Ok(self.spell(sheet).length as u32)
     }
 
-    /// The sheet of a label: 4 where its form is none, else 5 where no sheet's label is spelt so.
-    pub fn read_label(&self, text: &[u8]) -> Answer<u32> {
-        if !well_formed(text) {
-            return refuse(4);
-        }
+    /// The sheet whose label is spelt so, if there is one.
+    fn spelt(&self, text: &[u8]) -> Option<u32> {
         let mut bytes = [0; 16];
-        bytes[..text.len()].copy_from_slice(text);
+        bytes.get_mut(..text.len())?.copy_from_slice(text);
         let mut slot = slot_of(&bytes);
         while self.slots[slot] != FREE {
-            if self.spell(self.slots[slot]).bytes == bytes {
-                return Ok(self.slots[slot]);
+            if self.spell(self.slots[slot]).text() == text {
+                return Some(self.slots[slot]);
             }
             slot = (slot + 1) % SLOTS;
         }
-        refuse(5)
+        None
+    }
+
+    /// The sheet of a label: 4, 19, 20, 21, 5.
+    pub fn read_label(&self, text: &[u8]) -> Answer<u32> {
+        self.spelt(text).ok_or_else(|| self.fault(text))
+    }
+
+    // ---- Document 02, b) "Tell the lender which field is wrong" ----
+
+    /// What is wrong with a label that no sheet has, and where: "Refusals: 4, 19, 20, 21, 5", so each kind is looked for in the whole
+    /// label before the next one is. "Each, and 5 too, carries the place of the first offending byte in the label".
+    fn fault(&self, text: &[u8]) -> Refusal {
+        let at = |number: u32, place: usize| Refusal { number, carries: Some(place as u64) };
+        // "4 stays for empty or over 16 bytes": "0 for an empty label", "16 for one too long".
+        if text.is_empty() {
+            return at(4, 0);
+        }
+        if text.len() > 16 {
+            return at(4, 16);
+        }
+        // "19 a byte that is neither digit nor hyphen".
+        if let Some(place) = text.iter().position(|byte| !b"0123456789-".contains(byte)) {
+            return at(19, place);
+        }
+        // "20 an empty field or leading zero": "the hyphen or label end that closes an empty field" stands where the field would start, and
+        // so does a leading zero.
+        let fields = fields_of(text);
+        let leading = |field: &[u8]| field.len() > 1 && field[0] == b'0';
+        if let Some(&(start, _)) = fields.iter().find(|(_, field)| field.is_empty() || leading(field)) {
+            return at(20, start);
+        }
+        // "21 an unknown first number or count of fields": "0 for an empty label and for 21".
+        let known = |scale: &&Scale| scale.mark.as_bytes() == fields[0].1 && scale.fields == fields.len();
+        let Some(scale) = SCALES.iter().find(known) else {
+            return at(21, 0);
+        };
+        // "for 5 the start of the first field out of range". A field is in range where some sheet's label is that of the scale's first
+        // sheet but for this field: none is turned into a number.
+        let first = self.spell(scale.first);
+        let first = fields_of(first.text());
+        let within = |place: usize| {
+            let mut other: Vec<&[u8]> = first.iter().map(|&(_, field)| field).collect();
+            other[place] = fields[place].1;
+            self.spelt(&other.join(&b'-')).is_some()
+        };
+        let outside = (1..fields.len()).find(|&place| !within(place));
+        at(5, fields[outside.expect("a field out of range")].0)
     }
 
     // ---- "Catalogue lines" ----
 
-    /// The sheet of a line and the places of its label and name in it: 4, 5, 17, 16.
+    /// The sheet of a line and the places of its label and name in it: 4, 19, 20, 21, 5, 17, 16. "The line reader and the program repeat
+    /// the place after the number": the label begins the line, so it is the place in both.
     pub fn read_line(&self, line: &[u8]) -> Line {
         let parts = self.split_line(line);
         match parts {
@@ -574,8 +629,8 @@ impl Division {
 
     // ---- "The program" ----
 
-    /// A row for each line: its number from 1, then the sheet and its edges in metres, or "refused" and the refusal. A line ends with
-    /// a line feed; the last one may do without.
+    /// A row for each line: its number from 1, then the sheet and its edges in metres, or "refused" and the refusal, with "the place after
+    /// the number" where it carries one. A line ends with a line feed; the last one may do without.
     pub fn rows(&self, catalogue: &[u8]) -> String {
         let mut lines: Vec<&[u8]> = catalogue.split(|&byte| byte == b'\n').collect();
         if lines.last().is_some_and(|last| last.is_empty()) {
@@ -587,7 +642,7 @@ impl Division {
                 let [west, east, south, north] = [frame.west, frame.east, frame.south, frame.north].map(|edge| edge / 1000);
                 format!("{number} {sheet} {west} {east} {south} {north}\n")
             }
-            Err(refusal) => format!("{number} refused {}\n", refusal.number),
+            Err(refusal) => format!("{number} {refusal}\n"),
         };
         (1..).zip(&lines).map(row).collect()
     }
@@ -630,24 +685,15 @@ fn float_of(whole: u64) -> u64 {
     (1023 + high as u64) << 52 | (whole - (1 << high)) << (52 - high)
 }
 
-/// The form of a label: 1 to 16 bytes, only digits and hyphens, no empty field, no leading zero, and a known first number with its
-/// count of fields. No field is turned into a number.
-fn well_formed(text: &[u8]) -> bool {
-    if text.is_empty() || text.len() > 16 || text.iter().any(|byte| !b"0123456789-".contains(byte)) {
-        return false;
-    }
-    let mut count = 0;
-    let mut first: &[u8] = &[];
+/// The fields of a label, which its hyphens part, each with the place where it starts.
+fn fields_of(text: &[u8]) -> Vec<(usize, &[u8])> {
+    let mut fields = Vec::new();
+    let mut start = 0;
     for field in text.split(|&byte| byte == b'-') {
-        if field.is_empty() || field.len() > 1 && field[0] == b'0' {
-            return false;
-        }
-        if count == 0 {
-            first = field;
-        }
-        count += 1;
+        fields.push((start, field));
+        start += field.len() + 1;
     }
-    SCALES.iter().any(|scale| scale.mark.as_bytes() == first && scale.fields == count)
+    fields
 }
 
 /// A line as it is read. A name that is absent is the empty part at the line's end; of a refused line both are the empty part at
@@ -746,6 +792,10 @@ mod tests {
         division().read_label(label.as_bytes())
     }
 
+    fn refuse_at<T>(number: u32, place: u64) -> Answer<T> {
+        Err(Refusal { number, carries: Some(place) })
+    }
+
     #[test]
     fn nine_labels() {
         let cases = [
@@ -802,15 +852,20 @@ mod tests {
 
     #[test]
     fn labels_refused() {
-        for label in ["50-101-0", "50-131-1", "50-0-0", "50-357-1", "50-65637-1", "50-4294967397-1", "2-626-101-1", "100-116-1"] {
-            assert_eq!(read(label), refuse(5), "{label}");
+        let out_of_range = [
+            ("50-101-0", 7), ("50-131-1", 3), ("50-0-0", 3), ("50-357-1", 3), ("50-65637-1", 3), ("50-4294967397-1", 3),
+            ("2-626-101-1", 2), ("100-116-1", 4),
+        ];
+        for (label, place) in out_of_range {
+            assert_eq!(read(label), refuse_at(5, place), "{label}");
         }
         let badly = [
-            "50-0101-1", "50-101-", "", "0,5-1-3-301-109-11", "306-101-1", "65586-101-1", "4294967346-101-1", "1-1-1-1-1-1-1-1",
-            "1-1-101-1", "5-1-1-1-1-101-1", "0", "0-101-1", "5-1-3-301-109-011", "50-101-1 ",
+            ("50-0101-1", 20, 3), ("50-101-", 20, 7), ("", 4, 0), ("0,5-1-3-301-109-11", 4, 16), ("306-101-1", 21, 0),
+            ("65586-101-1", 21, 0), ("4294967346-101-1", 21, 0), ("1-1-1-1-1-1-1-1", 21, 0), ("1-1-101-1", 21, 0),
+            ("5-1-1-1-1-101-1", 21, 0), ("0", 21, 0), ("0-101-1", 21, 0), ("5-1-3-301-109-011", 4, 16), ("50-101-1 ", 19, 8),
         ];
-        for label in badly {
-            assert_eq!(read(label), refuse(4), "{label}");
+        for (label, number, place) in badly {
+            assert_eq!(read(label), refuse_at(number, place), "{label}");
         }
         assert_eq!(scale_of(read("5-1-1-101-1").expect("a sheet")), Ok(6));
         assert_eq!(scale_of(read("5-1-1-101-101-1").expect("a sheet")), Ok(9));
@@ -874,8 +929,12 @@ mod tests {
         let line = |text: &str| division().read_line(text.as_bytes());
         assert_eq!(line("50-109-11"), Line { sheet: Ok(344), label: 0..9, name: 9..9 });
         assert_eq!(line("50-109-11 Prelog (sjever)"), Line { sheet: Ok(344), label: 0..9, name: 10..25 });
-        for (text, number) in [("", 4), (" ", 4), ("50-109-11 ", 16), ("2-301-109-11 ", 17), ("50-131-1  x", 5), ("50-109-11\r", 4)] {
-            assert_eq!(line(text), Line { sheet: refuse(number), label: 0..0, name: 0..0 }, "{text}");
+        let refused = [
+            ("", refuse_at(4, 0)), (" ", refuse_at(4, 0)), ("50-109-11 ", refuse(16)), ("2-301-109-11 ", refuse(17)),
+            ("50-131-1  x", refuse_at(5, 3)), ("50-109-11\r", refuse_at(19, 9)),
+        ];
+        for (text, sheet) in refused {
+            assert_eq!(line(text), Line { sheet, label: 0..0, name: 0..0 }, "{text}");
         }
         for (length, fine) in [(0, false), (1, true), (48, true), (49, false)] {
             assert_eq!(line(&format!("50-109-11 {}", "x".repeat(length))).sheet.is_ok(), fine);
@@ -889,11 +948,11 @@ mod tests {
     #[test]
     fn the_program() {
         let rows = |text: &str| division().rows(text.as_bytes());
-        let whole = "1 3657982 500000 500300 4999800 5000000\n2 refused 4\n";
+        let whole = "1 3657982 500000 500300 4999800 5000000\n2 refused 4 16\n";
         assert_eq!(rows("5-1-3-301-109-11\n0,5-1-3-301-109-11\n"), whole);
         assert_eq!(rows("5-1-3-301-109-11\n0,5-1-3-301-109-11"), whole);
         assert_eq!(rows(""), "");
-        assert_eq!(rows("\n"), "1 refused 4\n");
+        assert_eq!(rows("\n"), "1 refused 4 0\n");
     }
 
     // ---- Document 02, a) ----
@@ -1036,5 +1095,97 @@ mod tests {
             }
         }
         assert!(inside > 3_000, "{inside}");
+    }
+
+    // ---- Document 02, b) ----
+
+    #[test]
+    fn places_of_faults() {
+        let cases = [
+            // "the hyphen or label end that closes an empty field", or the leading zero, of the first such field.
+            ("-", 20, 0), ("-101-1", 20, 0), ("50--1", 20, 3), ("50-", 20, 3), ("50-101--1", 20, 7), ("--", 20, 0),
+            ("050-101-1", 20, 0), ("05-1-1-101-1", 20, 0), ("00", 20, 0), ("00-101-1", 20, 0), ("50-00-1", 20, 3), ("50-101-01", 20, 7),
+            ("50-01-", 20, 3), ("50--01", 20, 3), ("5-4-4-625-130-00", 20, 14), ("5-4-4-625-130-2-", 20, 16), ("999999999999999-", 20, 16),
+            ("5-4-4-62-130-20-", 20, 16),
+            // "19 a byte that is neither digit nor hyphen".
+            ("x", 19, 0), ("x50-101-1", 19, 0), ("50-x-1", 19, 3), ("50-101-1x", 19, 8), ("50.101.1", 19, 2), ("50–101–1", 19, 2),
+            ("50-101-1\r", 19, 8), ("50-101\t1", 19, 6), ("50-101-1\0", 19, 8), ("0,5-1-1-1-101-1", 19, 1),
+            ("\u{feff}50-101-1", 19, 0), ("50-101-١", 19, 7), ("5-4-4-625-130-2x", 19, 15), ("50/101:1", 19, 2),
+            // "0 for an empty label and for 21"; a field "0" alone is well formed.
+            ("1", 21, 0), ("50", 21, 0), ("50-101", 21, 0), ("50-0", 21, 0), ("50-101-1-1", 21, 0), ("3-101-1", 21, 0),
+            ("5-1-101-1", 21, 0), ("9999999999999999", 21, 0), ("0-0-0-0-0-0-0-0", 21, 0),
+            // "for 5 the start of the first field out of range".
+            ("50-100-1", 5, 3), ("50-130-21", 5, 7), ("50-131-21", 5, 3), ("25-5-131-21", 5, 3), ("25-4-131-21", 5, 5),
+            ("25-4-130-21", 5, 9), ("5-26-5-131-21", 5, 2), ("5-25-5-131-21", 5, 5), ("5-25-4-131-21", 5, 7), ("5-25-4-130-21", 5, 11),
+            ("5-5-5-626-131-21", 5, 2), ("5-4-5-626-131-21", 5, 4), ("5-4-4-626-131-21", 5, 6), ("5-4-4-625-131-21", 5, 10),
+            ("5-4-4-625-130-21", 5, 14), ("5-4-4-625-130-0", 5, 14), ("5-1-1-101-101", 5, 10), ("50-101-999999999", 5, 7),
+            ("50-0-99999999999", 5, 3), ("2-9999999999-1-1", 5, 2),
+            // The order is by kind and not by place.
+            ("50--1x", 19, 5), ("1--00", 20, 2), ("-x", 19, 1), ("00x", 19, 2), ("3x", 19, 1), ("50-131-x", 19, 7), ("x-", 19, 0),
+            ("3-00", 20, 2), ("3-", 20, 2), ("50-131-01", 20, 7), ("50-131-", 20, 7), ("50-131", 21, 0), ("3-131-0", 21, 0),
+            // "16 for one too long", whatever else is wrong with it.
+            ("x-00-131-21-4294967296", 4, 16), ("5-4-4-625-130-201", 4, 16), ("5-4-4-625-130-20-", 4, 16), ("5-4-4-625-130-20x", 4, 16),
+            ("-----------------", 4, 16), ("x----------------", 4, 16),
+        ];
+        for (label, number, place) in cases {
+            assert_eq!(read(label), refuse_at(number, place), "{label}");
+            // "The line reader and the program repeat the place after the number", whatever the name is.
+            for name in ["", " ", " Rab", "  Rab"] {
+                let line = format!("{label}{name}");
+                assert_eq!(division().read_line(line.as_bytes()).sheet, refuse_at(number, place), "{line}");
+                assert_eq!(division().rows(line.as_bytes()), format!("1 refused {number} {place}\n"), "{line}");
+            }
+        }
+        for length in [17, 18, 66, 256, 65_536 + 8] {
+            assert_eq!(read(&"5".repeat(length)), refuse_at(4, 16));
+            assert_eq!(division().read_line(format!("{} Rab", "x".repeat(length)).as_bytes()).sheet, refuse_at(4, 16));
+        }
+        // 16 and 17 carry no place, and print none.
+        assert_eq!(division().rows(b"50-101-1 \n2-1-101-1 Rab\n50-131-1 \n"), "1 refused 16\n2 refused 17\n3 refused 5 3\n");
+    }
+
+    /// The form of a label by document 01, where all of this was 4: "1 to 16 bytes, only digits and hyphens, no empty field, no leading
+    /// zero (a field "0" alone is well formed), a known first number with its count of fields".
+    fn well_formed(text: &str) -> bool {
+        let fields: Vec<&str> = text.split('-').collect();
+        (1..=16).contains(&text.len())
+            && text.bytes().all(|byte| byte.is_ascii_digit() || byte == b'-')
+            && fields.iter().all(|field| !field.is_empty() && (*field == "0" || !field.starts_with('0')))
+            && SCALES.iter().any(|scale| (scale.mark, scale.fields) == (fields[0], fields.len()))
+    }
+
+    /// "Which labels are accepted does not change": 4, 19, 20 and 21 together are the old 4, and 5 stays what it was.
+    #[test]
+    fn as_before() {
+        for sheet in (0..100_000).chain((100_000..=LAST_SHEET).step_by(53)) {
+            let label = label_of(sheet);
+            assert!(well_formed(&label) && read(&label) == Ok(sheet));
+        }
+        let mut counts = [0; 22];
+        let mut hold = |label: &str| {
+            let number = read(label).map_or_else(|refusal| refusal.number, |_| 0);
+            counts[number as usize] += 1;
+            assert_eq!(well_formed(label), [0, 5].contains(&number), "{label}");
+        };
+        // All texts of up to six letters, alone and behind the beginnings of labels.
+        const LETTERS: [&str; 5] = ["0", "1", "5", "-", "x"];
+        let mut texts = vec![String::new()];
+        let mut from = 0;
+        for _ in 0..6 {
+            let to = texts.len();
+            for k in from..to {
+                texts.extend(LETTERS.map(|letter| format!("{}{letter}", texts[k])));
+            }
+            from = to;
+        }
+        for text in &texts {
+            for before in ["", "50-", "25-1-", "5-1-1-", "5-1-1-1-", "5-1-1-115-1"] {
+                hold(&format!("{before}{text}"));
+            }
+        }
+        for number in [0, 4, 5, 19, 20, 21] {
+            assert!(counts[number] > 100, "{number}: {}", counts[number]);
+        }
+        assert_eq!(counts.iter().sum::<i32>(), 6 * 19_531);
     }
 }

@@ -155,6 +155,52 @@ const FIELDS: [&str; 60] = [
     "01",
 ];
 
+/// Beginnings of labels of every scale, and of some that soon have 16 bytes.
+const BEGINNINGS: [&str; 12] =
+    ["", "250-", "100-", "50-", "25-1-", "10-1-", "5-1-1-", "2-1-", "1-1-1-", "5-1-1-1-", "5-1-1-115-1", "5-4-4-625-13"];
+
+/// What may stand behind the label of a line: nothing, names good and bad, and what belongs to the label still.
+const TAILS: [&str; 12] = [
+    "", " ", "  ", " Rab", "  Rab", " Rab ", " a\u{7f}", " 50-101-1", "\r", "\tRab", " nnnnnnnnnnnnnnnnnnnnnnnnnnnnnnnnnnnnnnnnnnnnnnnn",
+    " nnnnnnnnnnnnnnnnnnnnnnnnnnnnnnnnnnnnnnnnnnnnnnnnn",
+];
+
+/// All texts over some letters, of no letter up to so many.
+fn texts(letters: &[u8], most: u32) -> impl Iterator<Item = Vec<u8>> + '_ {
+    let text = move |length: u32, choice: usize| (0..length).map(|k| letters[choice / letters.len().pow(k) % letters.len()]).collect();
+    (0..=most).flat_map(move |length| (0..letters.len().pow(length)).map(move |choice| text(length, choice)))
+}
+
+/// Every label that comes of another by one slip: a byte changed, put in, dropped, doubled or changed with the next one, so that hyphens
+/// move, or a field changed.
+fn damaged(label: &[u8]) -> Vec<Vec<u8>> {
+    let with = |from: usize, to: usize, other: &[u8]| [&label[..from], other, &label[to..]].concat();
+    let mut all = Vec::new();
+    for place in 0..=label.len() {
+        for byte in *b"x-0" {
+            all.push(with(place, place, &[byte]));
+            if place < label.len() {
+                all.push(with(place, place + 1, &[byte]));
+            }
+        }
+        if let [byte, ref behind @ ..] = label[place..] {
+            all.push(with(place, place + 1, &[]));
+            all.push(with(place, place + 1, &[byte, byte]));
+            if let [next, ..] = *behind {
+                all.push(with(place, place + 2, &[next, byte]));
+            }
+        }
+    }
+    let mut from = 0;
+    for field in label.split(|&byte| byte == b'-') {
+        for other in ["", "0", "00", "7", "132", "627"] {
+            all.push(with(from, from + field.len(), other.as_bytes()));
+        }
+        from += field.len() + 1;
+    }
+    all
+}
+
 struct Asking<'a, 'b> {
     division: &'a Division,
     chance: Chance,
@@ -173,6 +219,10 @@ pub fn ask_all(division: &Division, asker: &mut Asker, seed: u64, long: bool) {
     asking.each_label_damaged(if long { 8 } else { 1 });
     asking.each_field();
     asking.short_texts(if long { 6 } else { 4 });
+    asking.short_endings(if long { 8 } else { 6 });
+    asking.two_slips(if long { 8 } else { 1 });
+    asking.ends_of_fields();
+    asking.about_16_bytes();
     asking.short_lists();
     asking.long_sets();
     if long {
@@ -794,12 +844,92 @@ impl Asking<'_, '_> {
 
     /// All texts of a few bytes over a few letters.
     fn short_texts(&mut self, most: u32) {
-        const LETTERS: &[u8] = b"-0125/: ";
-        for length in 0..=most {
-            for choice in 0..LETTERS.len().pow(length) {
-                let label: Vec<u8> = (0..length).map(|k| LETTERS[choice / LETTERS.len().pow(k) % LETTERS.len()]).collect();
-                self.ask(Question::ReadLabel { label: label.clone() });
-                self.ask(Question::ReadLine { line: label });
+        for label in texts(b"-0125/: ", most) {
+            self.ask(Question::ReadLabel { label: label.clone() });
+            self.ask(Question::ReadLine { line: label });
+        }
+    }
+
+    /// A label, and for some a line that begins with it.
+    fn ask_of_label(&mut self, label: Vec<u8>) {
+        if self.chance.one_in(8) {
+            let line = [&label, self.chance.of(&TAILS).as_bytes()].concat();
+            self.ask(Question::ReadLine { line });
+        }
+        self.ask(Question::ReadLabel { label });
+    }
+
+    /// All texts of a few bytes over a zero, two other digits, a hyphen and what is neither: alone, and behind beginnings of labels.
+    fn short_endings(&mut self, most: u32) {
+        for beginning in BEGINNINGS {
+            for text in texts(b"015-x", most) {
+                self.ask_of_label([beginning.as_bytes(), &text].concat());
+            }
+        }
+    }
+
+    /// Of each scale's first label, which is its shortest, and of some others: every slip after every slip, so that faults of all kinds
+    /// meet, in either order and as far apart as they can be.
+    fn two_slips(&mut self, times: usize) {
+        for scale in 1..=9 {
+            for time in 0..=times {
+                let sheet = if time == 0 { SCALES[scale as usize - 1].first } else { self.sheet_of(scale) };
+                for once in damaged(&self.label_of(sheet)) {
+                    for twice in damaged(&once) {
+                        self.ask_of_label(twice);
+                    }
+                    self.ask_of_label(once);
+                }
+            }
+        }
+    }
+
+    /// Of each scale: every field at both ends of its range and one beyond, and far out, in all ways together.
+    fn ends_of_fields(&mut self) {
+        for facts in &SCALES {
+            let mut labels = vec![facts.mark.to_string()];
+            let mut made = facts.made;
+            let mut put = |low: u32, high: u32| {
+                let numbers = [low - 1, low, high, high + 1, low + 256, 999];
+                labels = labels.iter().flat_map(|label| numbers.map(|number| format!("{label}-{number}"))).collect();
+            };
+            while let Made::Scale(parents, side) = made {
+                put(1, side * side);
+                made = SCALES[parents as usize - 1].made;
+            }
+            if let Made::Area(rows, columns) = made {
+                put(101, 100 + rows);
+                put(1, columns);
+            }
+            for label in labels {
+                self.ask_of_label(label.into_bytes());
+            }
+        }
+    }
+
+    /// Labels of about 16 bytes with two bytes changed, at any places, or one; and labels that are too long by so much that their length
+    /// looks right when it loses its upper bits.
+    fn about_16_bytes(&mut self) {
+        const PAIRS: [&[u8; 2]; 9] = [b"xx", b"x-", b"x0", b"-x", b"--", b"-0", b"0x", b"0-", b"00"];
+        for text in ["5-4-4-625-130-20131", "5-1-1-101-101-1-101", "1-1-1-1-1-1-1-1-1-1", "9999999999999999999"] {
+            for length in 14..=text.len() {
+                for (one, other) in (0..length).flat_map(|one| (one..length).map(move |other| (one, other))) {
+                    for pair in PAIRS {
+                        let mut label = text.as_bytes()[..length].to_vec();
+                        [label[one], label[other]] = *pair;
+                        self.ask_of_label(label);
+                    }
+                }
+            }
+        }
+        for scale in 1..=9 {
+            let sheet = self.sheet_of(scale);
+            let good = self.label_of(sheet);
+            for more in [256, 65_536] {
+                for byte in *b"0-x" {
+                    self.ask_of_label([&good[..], &vec![byte; more]].concat());
+                    self.ask_of_label([&vec![byte; more], &good[..]].concat());
+                }
             }
         }
     }
@@ -1116,14 +1246,9 @@ impl Asking<'_, '_> {
     fn short_lists(&mut self) {
         const MANY: &[u8] = &[0, 1, 2, 3, 4, 31, 32, 33, 64, 127, 128, 129, 130, 131, 160, 255];
         const FEW: &[u8] = &[0, 1, 2, 127, 128, 129, 255];
-        for (letters, most) in [(MANY, 3), (FEW, 5)] {
-            for length in 0..=most {
-                for choice in 0..letters.len().pow(length) {
-                    let list: Vec<u8> = (0..length).map(|k| letters[choice / letters.len().pow(k) % letters.len()]).collect();
-                    let room = if self.chance.one_in(4) { self.chance.below(4) } else { 200 };
-                    self.ask(Question::ReadList { list, room });
-                }
-            }
+        for list in texts(MANY, 3).chain(texts(FEW, 5)) {
+            let room = if self.chance.one_in(4) { self.chance.below(4) } else { 200 };
+            self.ask(Question::ReadList { list, room });
         }
     }
 

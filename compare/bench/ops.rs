@@ -110,7 +110,7 @@ fn small_set(numbers: &mut Numbers) -> Vec<u32> {
 fn rust_read_label(label: &[u8]) -> (u32, u64) {
     match sheets::read_label::<false>(label) {
         Ok(sheet) => (0, sheet.number as u64),
-        Err(why) => (why, 0),
+        Err((why, place)) => (why, place as u64),
     }
 }
 

@@ -1,6 +1,6 @@
 //! The program in plain Rust, for its time alone: catalogue lines on standard input, a row for each on standard output.
 //!
-//! Buffers of 64 KiB, one pass over the bytes of a label, no allocation.
+//! Buffers of 64 KiB, one pass over the bytes of a good label, no allocation.
 use std::fs::File;
 use std::io::{Read, Write};
 use std::mem::ManuallyDrop;
@@ -14,16 +14,17 @@ const LONGEST_ROW: usize = 64;
 /// More than the longest line that is accepted: what stands behind these bytes changes nothing.
 const HELD: usize = 128;
 
-fn read_line(line: &[u8]) -> Result<Sheet, u32> {
+/// The sheet of a line; or the refusal, and its place where it has one.
+fn read_line(line: &[u8]) -> Result<Sheet, (u32, Option<usize>)> {
     let end = line.iter().position(|&b| b == b' ').unwrap_or(line.len());
-    let sheet = read_label::<true>(&line[..end])?;
+    let sheet = read_label::<true>(&line[..end]).map_err(|(why, place)| (why, Some(place)))?;
     if end < line.len() {
         let name = &line[end + 1..];
         if sheet.scale > 5 {
-            return Err(17);
+            return Err((17, None));
         }
         if name.is_empty() || name.len() > 48 || name.iter().any(|&b| b < 32 || b == 127) || name[0] == b' ' || name[name.len() - 1] == b' ' {
-            return Err(16);
+            return Err((16, None));
         }
     }
     Ok(sheet)
@@ -71,9 +72,13 @@ fn row(line: &[u8], number: u64, out: &mut [u8], at: usize) -> usize {
                 at = put_number(n as u64, out, at + 1);
             }
         }
-        Err(why) => {
+        Err((why, place)) => {
             out[at..at + 9].copy_from_slice(b" refused ");
             at = put_number(why as u64, out, at + 9);
+            if let Some(place) = place {
+                out[at] = b' ';
+                at = put_number(place as u64, out, at + 1);
+            }
         }
     }
     out[at] = b'\n';

@@ -1,7 +1,8 @@
 //! The definition in plain Rust, for its time alone: labels, points, also in metres, and shelf lists.
 //!
-//! Written as a careful Rust programmer would write it: one table, one pass over the bytes, no allocation. A refusal is its number, with
-//! the room needed beside it where lent room can be too short. Each program here uses a part of it.
+//! Written as a careful Rust programmer would write it: one table, one pass over the bytes, no allocation, and a second pass only for the
+//! place at which a label is at fault. A refusal is its number, with that place beside it, or the room needed where lent room can be too
+//! short. Each program here uses a part of it.
 #![allow(dead_code)]
 
 pub const LAST_SHEET: u32 = 7_953_173;
@@ -57,15 +58,15 @@ pub struct Sheet {
     pub north: u32,
 }
 
-/// Place among the scale's sheets, and where `GROUND` is wanted west and north, otherwise 0.
-fn ground<const GROUND: bool>(scale: usize, values: &[u64]) -> Option<(u32, u32, u32)> {
+/// Place among the scale's sheets, and where `GROUND` is wanted west and north, otherwise 0; or the first field out of range.
+fn ground<const GROUND: bool>(scale: usize, values: &[u64; 8]) -> Result<(u32, u32, u32), usize> {
     let mut s = &SCALES[scale];
-    let mut values = values.iter();
+    let mut field = 1;
     let (mut place, mut weight, mut east, mut south) = (0, 1, 0, 0);
     while let Some(made) = &s.made {
-        let part = values.next()?.wrapping_sub(1);
+        let part = values[field].wrapping_sub(1);
         if part >= (made.side * made.side) as u64 {
-            return None;
+            return Err(field);
         }
         let part = part as u32;
         place += weight * part;
@@ -75,20 +76,50 @@ fn ground<const GROUND: bool>(scale: usize, values: &[u64]) -> Option<(u32, u32,
             south += part / made.side * s.height;
         }
         s = &SCALES[made.above];
+        field += 1;
     }
-    let (row, column) = (values.next()?.wrapping_sub(101), values.next()?.wrapping_sub(1));
-    if row >= s.rows as u64 || column >= s.columns as u64 {
-        return None;
+    let (row, column) = (values[field].wrapping_sub(101), values[field + 1].wrapping_sub(1));
+    if row >= s.rows as u64 {
+        return Err(field);
+    }
+    if column >= s.columns as u64 {
+        return Err(field + 1);
     }
     let (row, column) = (row as u32, column as u32);
     place += weight * (row * s.columns + column);
-    Some(if GROUND { (place, WEST + east + column * s.width, NORTH - south - row * s.height) } else { (place, 0, 0) })
+    Ok(if GROUND { (place, WEST + east + column * s.width, NORTH - south - row * s.height) } else { (place, 0, 0) })
 }
 
-/// The sheet of a label, with its west and north where `GROUND` is wanted.
-pub fn read_label<const GROUND: bool>(label: &[u8]) -> Result<Sheet, u32> {
+/// What is wrong with a label that is empty, too long, or has a byte, an empty field or a leading zero that it must not have, and where.
+#[cold]
+fn badly_formed(label: &[u8]) -> (u32, usize) {
     if label.is_empty() || label.len() > LONGEST_LABEL {
-        return Err(4);
+        return (4, label.len().min(LONGEST_LABEL));
+    }
+    if let Some(place) = label.iter().position(|&b| b != b'-' && !b.is_ascii_digit()) {
+        return (19, place);
+    }
+    // An empty field is closed where it starts, and a leading zero stands there.
+    let mut start = 0;
+    for field in label.split(|&b| b == b'-') {
+        if field.is_empty() || (field.len() > 1 && field[0] == b'0') {
+            break;
+        }
+        start += field.len() + 1;
+    }
+    (20, start)
+}
+
+/// Where a field starts.
+#[cold]
+fn start_of(label: &[u8], field: usize) -> usize {
+    label.split(|&b| b == b'-').take(field).map(|before| before.len() + 1).sum()
+}
+
+/// The sheet of a label, with its west and north where `GROUND` is wanted; or the refusal and its place in the label.
+pub fn read_label<const GROUND: bool>(label: &[u8]) -> Result<Sheet, (u32, usize)> {
+    if label.is_empty() || label.len() > LONGEST_LABEL {
+        return Err(badly_formed(label));
     }
     let mut values = [0u64; 8];
     let mut fields = 0;
@@ -96,8 +127,9 @@ pub fn read_label<const GROUND: bool>(label: &[u8]) -> Result<Sheet, u32> {
     let mut value = 0u64;
     for &b in label {
         if b == b'-' {
+            // An eighth hyphen among 16 bytes leaves some field empty.
             if digits == 0 || fields == 7 {
-                return Err(4);
+                return Err(badly_formed(label));
             }
             values[fields] = value;
             fields += 1;
@@ -106,14 +138,14 @@ pub fn read_label<const GROUND: bool>(label: &[u8]) -> Result<Sheet, u32> {
         } else {
             let d = b.wrapping_sub(b'0');
             if d > 9 || (digits > 0 && value == 0) {
-                return Err(4);
+                return Err(badly_formed(label));
             }
             value = value * 10 + d as u64;
             digits += 1;
         }
     }
     if digits == 0 {
-        return Err(4);
+        return Err(badly_formed(label));
     }
     values[fields] = value;
     fields += 1;
@@ -127,9 +159,9 @@ pub fn read_label<const GROUND: bool>(label: &[u8]) -> Result<Sheet, u32> {
         (2, 4) => 6,
         (1, 5) => 7,
         (5, 6) => 8,
-        _ => return Err(4),
+        _ => return Err((21, 0)),
     };
-    let (place, west, north) = ground::<GROUND>(scale, &values[1..fields]).ok_or(5u32)?;
+    let (place, west, north) = ground::<GROUND>(scale, &values).map_err(|field| (5, start_of(label, field)))?;
     Ok(Sheet { scale, number: SCALES[scale].first + place, west, north })
 }
 

@@ -1,4 +1,3 @@
-pub mod PieceLaws
 pub mod LineLaws
 pub mod PartLaws
 pub mod LineTheorems

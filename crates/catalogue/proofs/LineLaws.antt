@@ -6,16 +6,19 @@ use mathlib.Core.Logic.{⊎-elim}
 use Prim.Native.Nat.{ℕ, _+_, _-_, _≤_, _<_, min}
 use native.Mathlib.Numerals.{add-one}
 use native.Mathlib.Omega.{arith}
-use borrow.Author.Tests.{lt-ltb, le-ltb, le-leb, lt-leb}
+use borrow.Author.Tests.{lt-ltb, le-ltb}
 use lib.ListN.{length, getD, take, drop, length-take, length-drop, drop-of-length-le}
 use lib.Seq.{take-all, drop-cons}
+use Rattle.refusal.specs.declared.Refusal.the-variants.{LabelLength}
 use Rattle.refusal.specs.Paper.{Paper, answer, refused, isAnswer, _>>=_}
 use Rattle.division.proofs.TestLaws.{le-or-less}
 use Rattle.label.specs.Text.{every}
-use Rattle.label.specs.Label.{wellFormed, readLabel}
+use Rattle.label.specs.Label.{readLabel}
+use Rattle.label.proofs.PieceLaws.{take-piece, piece-within, piece-take}
+use Rattle.label.proofs.FormLaws.{long-form}
+use Rattle.label.proofs.NamedLaws.{read-unformed}
 use Rattle.catalogue.specs.Line.{labelIn, nameIn, readLine}
 use Rattle.catalogue.specs.Given.{namedPaper}
-use Rattle.catalogue.proofs.PieceLaws.{take-piece, piece-within, piece-take}
 
 -- ---- the label is a beginning of the line, and the name its end
 
@@ -37,11 +40,10 @@ name-taken line =
 
 -- ---- a label of more than 16 bytes is refused, and so is its line
 
-long-formed : (label : List ℕ) → 16 < length label → readLabel label ≡ refused 4 0
-unfolding readLabel wellFormed
-long-formed label h = rw (le-leb 1 (length label) (omega arith), lt-leb (length label) 16 h)
+long-formed : (label : List ℕ) → 16 < length label → readLabel label ≡ refused 4 16
+long-formed label h = read-unformed label (LabelLength 16) (long-form label h)
 
-pub long-label : (line : List ℕ) → 16 < length (labelIn line) → readLine line ≡ refused 4 0
+pub long-label : (line : List ℕ) → 16 < length (labelIn line) → readLine line ≡ refused 4 16
 unfolding readLine
 long-label line h = rw (long-formed (labelIn line) h)
 

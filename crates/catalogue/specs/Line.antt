@@ -39,7 +39,7 @@ withName name n = do
   refuse 16 unless isName name
   answer n
 
--- "Line: 4, 5, 17, 16"
+-- "Line: 4, 5, 17, 16"; document 02, b): "Refusals: 4, 19, 20, 21, 5, then as before", and "The line reader .. repeat[s] the place"
 unfoldable pub readLine : List ℕ → Paper ℕ
 readLine line = do
   n ← readLabel (labelIn line)

@@ -1,7 +1,7 @@
 // The sheet or refusal of a line.
-use crate::piece::piece_end;
 use division::Found;
 use division::table::Scale;
+use label::piece::piece_end;
 use label::reading::read_label;
 use refusal::Refusal;
 ghost use mathlib.Core.Path.{_≡_};

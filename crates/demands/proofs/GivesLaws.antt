@@ -1,5 +1,5 @@
 -- A line of a cascade gives its own refusal or what the next line gives, so a cascade gives the refusals of its lines. Assumes nothing.
-use mathlib.Core.Path.{_≡_, refl, sym}
+use mathlib.Core.Path.{_≡_, refl, sym, _∙_}
 use mathlib.Core.Bool.{Bool, true, false, false≢true, cond, _||_}
 use mathlib.Core.List.{List, [], _∷_}
 use Prim.Native.Nat.{ℕ, zero, suc, _+_}
@@ -7,6 +7,7 @@ use lib.Dec.{leb}
 use lib.ListN.{length, getD, drop}
 use lib.Ieee.{Float, nan, inf, fin}
 use Rattle.refusal.specs.Paper.{Paper, answer, refused, refuse_at_unless_, refuse_unless_, _>>_, _>>=_, roomFor, laid}
+use Rattle.refusal.specs.Numbers.{isIn, carries}
 use Rattle.rising.specs.Rising.{risingFrom}
 use Rattle.division.specs.Words.{_≤?_, _<?_, _=?_}
 use Rattle.division.specs.Table.{isScale, made}
@@ -16,13 +17,14 @@ use Rattle.division.specs.Sheet.{scaleOf, sheetAt}
 use Rattle.division.specs.Cover.{sheetsIn, isWindow, coverable}
 use Rattle.frame.specs.Exact.{exactly, downward, upward}
 use Rattle.frame.specs.Metres.{sheetAtMetres}
-use Rattle.label.specs.Label.{inRange, scaleWith, wellFormed, numbersIn, sheetNamed, readLabel}
+use Rattle.label.specs.Text.{every, firstNot, split}
+use Rattle.label.specs.Label.{isLabelByte, isField, inRange, firstOut, scaleWith, startOf, formed, numbersIn, sheetNamed, readLabel}
 use Rattle.catalogue.specs.Line.{labelIn, hasName, nameIn, isName, withName, readLine}
 use Rattle.shelf.specs.Number.{highs, readNumber}
 use Rattle.shelf.specs.Kind.{Kind}
 use Rattle.shelf.specs.Writing.{setIn}
 use Rattle.shelf.specs.Reading.{Reading, _thenRead_, entriesIn}
-use Rattle.demands.specs.Refusals.{isIn, Gives, answers, refuses}
+use Rattle.demands.specs.Refusals.{Gives, answers, refuses}
 
 -- ---- the lines of a cascade
 
@@ -51,12 +53,13 @@ module _ {listed : List ℕ} where
   read-gives next (answers {a}) h = h a
   read-gives next (refuses i c) h = refuses i c
 
+  -- a line whose refusal carries a value
+  carried-gives : (n v : ℕ) (test : Bool) → carries n ≡ true → isIn listed n ≡ true → Gives listed (refuse n at v unless test)
+  carried-gives n v true k i = answers
+  carried-gives n v false k i = refuses i (λ c. absurd (false≢true (sym c ∙ k)))
+
   pub room-gives : (needed room : ℕ) → isIn listed 10 ≡ true → Gives listed (roomFor needed room)
-  room-gives needed room i = by (leb needed room)
-    where
-      by : (fits : Bool) → Gives {A = Unit {0}} listed (refuse 10 at needed unless fits)
-      by true = answers
-      by false = refuses i (λ c. absurd (false≢true (sym c)))
+  room-gives needed room i = carried-gives 10 needed (leb needed room) refl i
 
   pub laid-gives : (items : List ℕ) (room : ℕ) → isIn listed 10 ≡ true → Gives listed (laid items room)
   laid-gives items room i = then-gives (room-gives (length items) room i) answers
@@ -81,16 +84,22 @@ module _ {listed : List ℕ} where
       found-gives (found-gives (exactly-gives i n) λ value. answers) λ north.
       line-gives 2 (isScale s) h (line-gives 1 (owns area east north) j answers))
 
-  pub label-gives : isIn listed 4 ≡ true → isIn listed 5 ≡ true → (label : List ℕ) → Gives listed (readLabel label)
-  unfolding readLabel sheetNamed
-  label-gives i j label =
-      line-gives 4 (wellFormed label) i
-      (found-gives (line-gives 4 (isScale (scaleWith (getD (numbersIn label) 0 0) (length (numbersIn label)))) i answers) λ s.
-      line-gives 5 (inRange (made s) (drop 1 (numbersIn label))) j answers)
+  pub label-gives : isIn listed 4 ≡ true → isIn listed 19 ≡ true → isIn listed 20 ≡ true → isIn listed 21 ≡ true → isIn listed 5 ≡ true → (label : List ℕ) → Gives listed (readLabel label)
+  unfolding readLabel formed sheetNamed
+  label-gives g h i j k label =
+      let fields = split 45 label in
+      let numbers = numbersIn label in
+      then-gives
+      (then-gives (carried-gives 4 0 (1 ≤? length label) refl g)
+      (then-gives (carried-gives 4 16 (length label ≤? 16) refl g)
+      (then-gives (carried-gives 19 (firstNot isLabelByte label) (every isLabelByte label) refl h)
+      (carried-gives 20 (startOf (firstNot isField fields) fields) (every isField fields) refl i))))
+      (found-gives (then-gives (carried-gives 21 0 (isScale (scaleWith (getD numbers 0 0) (length numbers))) refl j) answers) λ s.
+      then-gives (carried-gives 5 (startOf (1 + firstOut (made s) (drop 1 numbers)) fields) (inRange (made s) (drop 1 numbers)) refl k) answers)
 
-  pub line-of-gives : isIn listed 4 ≡ true → isIn listed 5 ≡ true → isIn listed 17 ≡ true → isIn listed 16 ≡ true → (line : List ℕ) → Gives listed (readLine line)
+  pub line-of-gives : ((label : List ℕ) → Gives listed (readLabel label)) → isIn listed 17 ≡ true → isIn listed 16 ≡ true → (line : List ℕ) → Gives listed (readLine line)
   unfolding readLine withName
-  line-of-gives h i j k line = found-gives (label-gives h i (labelIn line)) λ n. by (hasName line) n
+  line-of-gives g j k line = found-gives (g (labelIn line)) λ n. by (hasName line) n
     where
       by : (named : Bool) (n : ℕ) → Gives listed (cond named (withName (nameIn line) n) (answer n))
       by true n = line-gives 17 (scaleOf n ≤? 6) j (line-gives 16 (isName (nameIn line)) k answers)

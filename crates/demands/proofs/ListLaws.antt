@@ -7,6 +7,7 @@ use Prim.Native.Nat.{ℕ, _≤_, _<_}
 use native.Mathlib.Omega.{arith}
 use borrow.Author.Tests.{leb-true}
 use Rattle.refusal.specs.Paper.{Paper, answer, refused}
+use Rattle.refusal.specs.Numbers.{isIn}
 use Rattle.refusal.specs.declared.Refusal.the-variants.{BadNumber}
 use Rattle.refusal.proofs.PaperLaws.{same-number, same-value}
 use Rattle.division.specs.Words.{_≤?_}
@@ -19,7 +20,7 @@ use Rattle.shelf.specs.Reading.{Reading, entriesIn, readIn, readList}
 use Rattle.shelf.proofs.KindLaws.{sheets-count, sheets-over}
 use Rattle.shelf.proofs.ReadingLaws.{count-refused, count-room, count-read}
 use Rattle.shelf.proofs.NumberTheorems.{Bytes}
-use Rattle.demands.specs.Refusals.{isIn, Gives}
+use Rattle.demands.specs.Refusals.{Gives}
 use Rattle.demands.specs.Lists.{CountAbove}
 use Rattle.demands.proofs.GivesLaws.{test-gives, given-listed, number-gives, entries-give}
 

@@ -38,10 +38,10 @@ refusals-numbered = record {
   offsets = λ a b. line-gives 3 (isSheet a) refl (line-gives 3 (isSheet b) refl (line-gives 6 (scaleOf a =? scaleOf b) refl answers));
   covers = λ s w room. then-gives (cover-gives refl refl refl refl s w) (laid-gives (sheetsIn s w) room refl);
   blocks = λ s w. then-gives (cover-gives refl refl refl refl s w) answers;
-  labels = label-gives refl refl;
+  labels = label-gives refl refl refl refl refl;
   labelled = λ n room. line-gives 3 (isSheet n) refl (laid-gives (labelOf n) room refl);
   measured = λ n. line-gives 3 (isSheet n) refl answers;
-  lines = line-of-gives refl refl refl refl;
+  lines = line-of-gives (label-gives refl refl refl refl refl) refl refl;
   lists = λ sheets room. then-gives (set-gives ofSheets (λ n. test-gives 3 (isSheet n) refl) refl refl sheets) (laid-gives (listBytes sheets) room refl);
   sized = λ sheets. then-gives (set-gives ofSheets (λ n. test-gives 3 (isSheet n) refl) refl refl sheets) answers;
   reading = λ bytes room.

@@ -1,15 +1,14 @@
 -- Demand 1: the refusals that each question can give.
 use Prim.Native.Nat.{ℕ}
 use mathlib.Core.Path.{_≡_}
-use mathlib.Core.Bool.{Bool, true, false, _||_}
+use mathlib.Core.Bool.{true, false}
 use mathlib.Core.List.{List, [], _∷_}
 use lib.IntN.{ℤ}
 use lib.Ieee.{Float}
 use Rattle.refusal.specs.Paper.{Paper, answer, refused}
-use Rattle.refusal.specs.Numbers.{carries}
+use Rattle.refusal.specs.Numbers.{isIn, carries}
 use Rattle.division.specs.declared.Edges.{Edges}
 use Rattle.division.specs.declared.Place.{Place}
-use Rattle.division.specs.Words.{_=?_}
 use Rattle.division.specs.Sheet.{locate, sheetOn, sheetAt, cornersOf}
 use Rattle.relations.specs.Relations.{parent, child, step, offset}
 use Rattle.division.specs.Cover.{cover, blockIn}
@@ -19,18 +18,13 @@ use Rattle.catalogue.specs.Line.{readLine}
 use Rattle.shelf.specs.Writing.{writeList, listLength}
 use Rattle.shelf.specs.Reading.{readList}
 
--- a number is one of those listed
-abbrev pub isIn : List ℕ → ℕ → Bool
-isIn [] number = false
-isIn (n ∷ listed) number = number =? n || isIn listed number
-
 -- a question gets an answer, or a refusal whose number is listed, with the value 0 where the refusal carries none
 pub data Gives {A : Type 0} (listed : List ℕ) : Paper A → Type 0 where
   answers : {a : A} → Gives listed (answer a)
   refuses : {number value : ℕ} → isIn listed number ≡ true → (carries number ≡ false → value ≡ 0) → Gives listed (refused number value)
 
 -- for each question the set of its refusals: no other is given. Their order, "scale (2) or sheet (3) first, of two sheets the first first.
--- Points: 2, 1. Child: 3, 2, 6. Cover: 2, 7, 8, 9, 10. Line: 4, 5, 17, 16. Label writing: 3, 10. List writing: 9, then .. 3 before 15, then
+-- Points: 2, 1. Child: 3, 2, 6. Cover: 2, 7, 8, 9, 10. Line: 4, .. 5, 17, 16. Label writing: 3, 10. List writing: 9, then .. 3 before 15, then
 -- 10", is kept in the lists but not stated by them: it is that of the lines of each definition's `do`, where the first that refuses decides
 -- (refusal/proofs/PaperLaws, `passed`: what is answered has passed each line). The facts of a scale, the neighbours, the parts of a line
 -- and its caption know no refusal
@@ -50,10 +44,11 @@ pub record RefusalsNumbered : Type 0 where
   pub offsets : (a b : ℕ) → Gives (3 ∷ 6 ∷ []) (offset a b)
   pub covers : (s : ℕ) (w : Edges) (room : ℕ) → Gives (2 ∷ 7 ∷ 8 ∷ 9 ∷ 10 ∷ []) (cover s w room)
   pub blocks : (s : ℕ) (w : Edges) → Gives (2 ∷ 7 ∷ 8 ∷ 9 ∷ []) (blockIn s w)
-  pub labels : (label : List ℕ) → Gives (4 ∷ 5 ∷ []) (readLabel label)
+  -- document 02, b): "Refusals: 4, 19, 20, 21, 5, then as before"
+  pub labels : (label : List ℕ) → Gives (4 ∷ 19 ∷ 20 ∷ 21 ∷ 5 ∷ []) (readLabel label)
   pub labelled : (n room : ℕ) → Gives (3 ∷ 10 ∷ []) (writeLabel n room)
   pub measured : (n : ℕ) → Gives (3 ∷ []) (labelLength n)
-  pub lines : (line : List ℕ) → Gives (4 ∷ 5 ∷ 17 ∷ 16 ∷ []) (readLine line)
+  pub lines : (line : List ℕ) → Gives (4 ∷ 19 ∷ 20 ∷ 21 ∷ 5 ∷ 17 ∷ 16 ∷ []) (readLine line)
   pub lists : (sheets : List ℕ) (room : ℕ) → Gives (9 ∷ 3 ∷ 15 ∷ 10 ∷ []) (writeList sheets room)
   pub sized : (sheets : List ℕ) → Gives (9 ∷ 3 ∷ 15 ∷ []) (listLength sheets)
   -- "11 .. 12 .. a count above the lent room gives 10. Each entry then gives 11, 12, 13 or a sheet. After the last entry .. 14"

@@ -1,6 +1,6 @@
 -- The fields of a place and the place of fields undo each other, once over how a scale is made. Assumes nothing.
 use mathlib.Core.Path.{_≡_, refl, sym, ap, ap₂, _∙_}
-use mathlib.Core.Bool.{true}
+use mathlib.Core.Bool.{true, _&&_}
 use mathlib.Core.List.{List, [], _∷_}
 use Prim.Native.Nat.{ℕ, _+_, _-_, _*_, _/_, _%_, _≤_}
 use native.Mathlib.Nat.{mod-lt}
@@ -13,7 +13,8 @@ use Rattle.division.specs.Table.{Made, ofArea, ofScale, rowsOf, columnsOf}
 use Rattle.division.specs.Sheet.{numberIn, parentPlace, partIndex, indexAt, placeAt}
 use Rattle.division.proofs.TestLaws.{both, in-between, between-in}
 use Rattle.division.proofs.MadeLaws.{Sound, On, place, quot, number-few, child-parent, parent-child, number-child, on-parent, left-one, left-few}
-use Rattle.label.specs.Label.{fieldsOf, inRange, placeFrom, countOf}
+use Rattle.label.specs.Text.{every}
+use Rattle.label.specs.Label.{fieldsOf, ranges, inRange, placeFrom, countOf}
 
 -- ---- from a place to its fields
 
@@ -28,13 +29,19 @@ place-fields (ofArea r c) p s = place (omega arith) (omega arith)
 place-fields (ofScale z m k) p s = rw (place-fields m (parentPlace k p) (s .1)) (child-parent k (s .0) p)
 
 pub range-fields : (m : Made) (p : Place) → Sound m → On m p → inRange m (fieldsOf m p) ≡ true
-unfolding inRange fieldsOf rowsOf columnsOf
+unfolding inRange ranges every fieldsOf rowsOf columnsOf
 range-fields (ofArea r c) p s o =
-    rw (in-between 101 (100 + r) (101 + p .row) (omega arith) (omega (arith, o .in-rows))) (in-between 1 c (1 + p .column) (omega arith) (omega (arith, o .in-columns)))
+    rw (in-between 101 (100 + r) (101 + p .row) (omega arith) (omega (arith, o .in-rows)), in-between 1 c (1 + p .column) (omega arith) (omega (arith, o .in-columns)))
 range-fields (ofScale z m k) p s o =
     rw (in-between 1 (k * k) (numberIn k p) (omega arith) (number-few k (s .0) p)) (range-fields m (parentPlace k p) (s .1) (on-parent z m k p (s .0) o))
 
 -- ---- from fields to their place
+
+-- as many are judged as there are to be
+pub count-ranges : (m : Made) (fs : List ℕ) → length (ranges m fs) ≡ countOf m
+unfolding ranges countOf
+count-ranges (ofArea r c) fs = refl
+count-ranges (ofScale s m k) fs = rw (count-ranges m (drop 1 fs)) (omega arith)
 
 -- what it is to be in range
 pub record AreaRange (r c : ℕ) (fs : List ℕ) : Type 0 where
@@ -49,15 +56,15 @@ pub record PartRange (m : Made) (k : ℕ) (fs : List ℕ) : Type 0 where
   pub above : inRange m (drop 1 fs) ≡ true
 
 pub area-range : (r c : ℕ) (fs : List ℕ) → inRange (ofArea r c) fs ≡ true → AreaRange r c fs
-unfolding inRange
+unfolding inRange ranges every
 area-range r c fs e =
-    let b = both (between 101 (100 + r) (getD fs 0 0)) (between 1 c (getD fs 1 0)) e in
+    let b = both (between 101 (100 + r) (getD fs 0 0)) (between 1 c (getD fs 1 0) && true) e in
     let x = between-in 101 (100 + r) (getD fs 0 0) (b .0) in
-    let y = between-in 1 c (getD fs 1 0) (b .1) in
+    let y = between-in 1 c (getD fs 1 0) (both (between 1 c (getD fs 1 0)) true (b .1) .0) in
     record { row-low = x .0; row-high = x .1; column-low = y .0; column-high = y .1 }
 
 pub part-range : (s : ℕ) (m : Made) (k : ℕ) (fs : List ℕ) → inRange (ofScale s m k) fs ≡ true → PartRange m k fs
-unfolding inRange
+unfolding inRange ranges every
 part-range s m k fs e =
     let b = both (between 1 (k * k) (getD fs 0 0)) (inRange m (drop 1 fs)) e in
     let x = between-in 1 (k * k) (getD fs 0 0) (b .0) in

@@ -10,7 +10,7 @@ use borrow.Author.Tests.{le-leb}
 use lib.Dec.{eqb, leb}
 use lib.ListN.{length, getD, drop, length-drop}
 use Rattle.refusal.specs.Paper.{answer}
-use Rattle.refusal.proofs.PaperLaws.{passed, found, same-answer}
+use Rattle.refusal.proofs.PaperLaws.{passed-at, passed-judge, found, same-answer}
 use Rattle.division.specs.declared.Place.{Place}
 use Rattle.division.specs.Words.{between, from, keep}
 use Rattle.division.specs.Table.{Made, ofArea, ofScale, table, tableRow, rowsOf, columnsOf, made}
@@ -23,13 +23,14 @@ use Rattle.division.proofs.TableLaws.{Each, each, rules, scale, is-scale}
 use Rattle.division.proofs.NumberLaws.{on-grid, sheet-place, scale-sheet, place-sheet, is-sheet}
 use Rattle.division.proofs.GroundTheorems.{ground-tells}
 use Rattle.label.specs.Text.{every, split, join, value, digits, withoutZeros, decimal}
-use Rattle.label.specs.Label.{markOf, fieldsOf, countOf, inRange, placeFrom, scaleWith, scaleNamed, isLabelByte, isField, wellFormed, numbersIn, sheetNamed, readLabel, labelOf}
+use Rattle.label.specs.Label.{markOf, fieldsOf, countOf, inRange, firstOut, placeFrom, scaleWith, scaleNamed, isLabelByte, isField, wellFormed, startOf, formed, numbersIn, sheetNamed, readLabel, labelOf}
 use Rattle.label.proofs.ValueLaws.{value-decimal}
 use Rattle.label.proofs.SplitLaws.{FreeAll, split-join, join-split}
 use Rattle.label.proofs.FieldLaws.{count-fields, place-fields, range-fields, on-from, fields-place}
 use Rattle.label.proofs.LengthLaws.{Short, sizes}
 use Rattle.label.proofs.ByteLaws.{decimal-digits}
 use Rattle.label.proofs.SpellLaws.{digits-free, pieces, pieces-spelt}
+use Rattle.label.proofs.FormLaws.{well-formed, formed-well}
 use Rattle.label.proofs.NamedLaws.{named}
 use Rattle.label.proofs.WritingTheorems.{labels-short, labels-plain}
 
@@ -114,6 +115,10 @@ module _ (n : ℕ) (h : isSheet n ≡ true) where
       let s = scaleOf n in
       ap (every isField) (split-back (markOf s) (fieldsOf (made s) (placeOf n))) ∙ all-fields (markOf s ∷ fieldsOf (made s) (placeOf n))
 
+  formed-back : wellFormed (labelOf n) ≡ true
+  unfolding wellFormed
+  formed-back = rw (labels-short n h, labels-plain n h, fields-sound)
+
   named-back : scaleWith (markOf (scaleOf n)) (length (markOf (scaleOf n) ∷ fieldsOf (made (scaleOf n)) (placeOf n))) ≡ scaleOf n
   named-back =
       let e : length (markOf (scaleOf n) ∷ fieldsOf (made (scaleOf n)) (placeOf n)) ≡ 1 + countOf (made (scaleOf n)) = omega (arith, count-fields (made (scaleOf n)) (placeOf n)) in
@@ -121,9 +126,9 @@ module _ (n : ℕ) (h : isSheet n ≡ true) where
 
   -- "Each label reads back to its sheet"
   pub reads-back : readLabel (labelOf n) ≡ answer n
-  unfolding readLabel sheetNamed wellFormed
+  unfolding readLabel sheetNamed
   reads-back =
-      rw (numbers-back, labels-short n h, labels-plain n h, fields-sound, named-back, is-scale (on-grid n h .scale), range-fields (made (scaleOf n)) (placeOf n) sound on, place-fields (made (scaleOf n)) (placeOf n) sound)
+      rw (well-formed (labelOf n) formed-back, numbers-back, named-back, is-scale (on-grid n h .scale), range-fields (made (scaleOf n)) (placeOf n) sound on, place-fields (made (scaleOf n)) (placeOf n) sound)
       (ap answer (sheet-place n h))
 
 -- ---- what is read was written
@@ -139,10 +144,10 @@ record Accepted (l : List ℕ) (n : ℕ) : Type 0 where
 accepted : (l : List ℕ) (n : ℕ) → readLabel l ≡ answer n → Accepted l n
 unfolding readLabel sheetNamed
 accepted l n e =
-    let a = passed 4 (wellFormed l) _ e in
-    let b = found (scaleNamed (getD (numbersIn l) 0 0) (length (numbersIn l))) (λ s. sheetNamed s (drop 1 (numbersIn l))) (a .1) in
-    let c = passed 5 (inRange (made (b .0)) (drop 1 (numbersIn l))) _ (b .2) in
-    record { s = b .0; named = b .1; formed = a .0; range = c .0; sheet = sym (same-answer (c .1)) }
+    let a = passed-judge (formed l) _ e in
+    let b = found (scaleNamed (getD (numbersIn l) 0 0) (length (numbersIn l))) (λ s. sheetNamed s l) (a .1) in
+    let c = passed-at 5 (startOf (1 + firstOut (made (b .0)) (drop 1 (numbersIn l))) (split 45 l)) (inRange (made (b .0)) (drop 1 (numbersIn l))) _ (b .2) in
+    record { s = b .0; named = b .1; formed = formed-well l (a .0); range = c .0; sheet = sym (same-answer (c .1)) }
 
 pub record Written (l : List ℕ) (n : ℕ) : Type 0 where
   pub sheet : isSheet n ≡ true

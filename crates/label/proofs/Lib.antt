@@ -10,4 +10,7 @@ pub mod ByteLaws
 pub mod WritingTheorems
 pub mod ScanLaws
 pub mod ReckonLaws
+pub mod PieceLaws
+pub mod PlaceLaws
+pub mod FormLaws
 pub mod NamedLaws

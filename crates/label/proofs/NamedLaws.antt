@@ -1,7 +1,7 @@
 -- The scale that a first number and a count of fields name has them, and a label is read by its numbers alone. Assumes nothing.
 use mathlib.Core.Path.{_≡_, refl, sym, ap, _∙_}
 use mathlib.Core.Bool.{Bool, true, false, cond, _&&_}
-use mathlib.Core.List.{List, [], _∷_, List·Memᴰ, List·Memᴰ·head}
+use mathlib.Core.List.{List, [], _∷_, map, List·Memᴰ, List·Memᴰ·head}
 use Prim.Native.Nat.{ℕ, zero, suc, _+_, _-_, _<_}
 use native.Mathlib.Numerals.{sub-one}
 use native.Mathlib.Omega.{arith}
@@ -9,17 +9,20 @@ use borrow.Author.Tests.{eqb-true}
 use lib.ListN.{length, getD, take, drop, length-drop}
 use lib.Seq.{getD-take}
 use Rattle.refusal.specs.declared.Refusal.{Refusal}
-use Rattle.refusal.specs.Paper.{Paper, answer, refused, refuse_unless_, _>>_, _>>=_}
+use Rattle.refusal.specs.Paper.{Paper, answer, _>>=_}
 use Rattle.refusal.specs.Numbers.{onPaper}
-use Rattle.refusal.proofs.PaperLaws.{passed, same-answer, on-paper}
+use Rattle.refusal.proofs.PaperLaws.{passed, same-answer, judge-refuses, asked-on}
 use Rattle.division.specs.Words.{_=?_, from, keep}
-use Rattle.division.specs.Table.{isScale, made, table, tableRow}
+use Rattle.division.specs.Table.{isScale, made}
 use Rattle.division.specs.Given.{IsScale}
 use Rattle.division.proofs.TestLaws.{both}
 use Rattle.division.proofs.TableLaws.{scale}
 use Rattle.division.proofs.MemberLaws.{from-has, keep-has}
-use Rattle.label.specs.Label.{markOf, countOf, scaleWith, scaleNamed, wellFormed, numbersIn, sheetNamed, readLabel}
+use Rattle.label.specs.Text.{value}
+use Rattle.label.specs.Label.{markOf, countOf, scaleWith, scaleNamed, wellFormed, formed, numbersIn, sheetNamed, readLabel}
 use Rattle.label.specs.Given.{numbersOf, Held, Fields}
+use Rattle.label.proofs.SplitLaws.{some-pieces}
+use Rattle.label.proofs.FormLaws.{well-formed}
 
 -- ---- the scale
 
@@ -48,46 +51,52 @@ with mark count n =
 
 pub named : (mark count s : ℕ) → scaleNamed mark count ≡ answer s → Named mark count s
 named mark count s e =
-    let p = passed 4 (isScale (scaleWith mark count)) _ e in
+    let p = passed 21 (isScale (scaleWith mark count)) _ e in
     rw (same-answer (p .1)) at (with mark count (λ z. omega (arith, scale (scaleWith mark count) (p .0))))
-
--- no numbers name no scale
-none-named : scaleNamed 0 0 ≡ refused 4 0
-unfolding scaleWith markOf countOf table tableRow from keep
-none-named = refl
 
 -- ---- the label
 
 abbrev pub scaleFrom : List ℕ → Paper ℕ
 scaleFrom vs = scaleNamed (getD vs 0 0) (length vs)
 
--- a label of these numbers; one that is not well formed has none
-abbrev pub readNumbers : List ℕ → Paper ℕ
-readNumbers vs = scaleFrom vs >>= λ s. sheetNamed s (drop 1 vs)
-
-pub read-numbers : (bytes : List ℕ) → readLabel bytes ≡ readNumbers (numbersOf bytes)
-unfolding readLabel numbersOf
-read-numbers bytes = by (wellFormed bytes)
+-- the code has numbers of a label exactly if it is well formed
+pub unformed : (bytes : List ℕ) → length (numbersOf bytes) ≡ 0 → wellFormed bytes ≡ false
+unfolding numbersOf
+unformed bytes = by (wellFormed bytes)
   where
-    by : (b : Bool) → ((refuse 4 unless b) >> readNumbers (numbersIn bytes)) ≡ readNumbers (cond b (numbersIn bytes) [])
-    by true = refl
-    by false = rw none-named
+    by : (b : Bool) → length (cond b (numbersIn bytes) []) ≡ 0 → b ≡ false
+    by true e = let p = some-pieces 45 bytes in let z : suc (length (map value (p .1))) ≡ 0 = rw (p .2) at e in absurd (omega arith)
+    by false e = refl
 
-pub read-empty : (vs : List ℕ) → length vs ≡ 0 → readNumbers vs ≡ refused 4 0
-read-empty [] e = rw none-named
-read-empty (v ∷ vs) e = absurd (omega arith)
+pub well : (bytes : List ℕ) → (length (numbersOf bytes) ≡ 0 → ⊥) → (wellFormed bytes ≡ true) × (numbersOf bytes ≡ numbersIn bytes)
+unfolding numbersOf
+well bytes = by (wellFormed bytes)
+  where
+    by : (b : Bool) → (length (cond b (numbersIn bytes) []) ≡ 0 → ⊥) → (b ≡ true) × (cond b (numbersIn bytes) [] ≡ numbersIn bytes)
+    by true n = (refl, refl)
+    by false n = absurd (n refl)
 
-pub read-none : (vs : List ℕ) (why : Refusal) → scaleFrom vs ≡ onPaper why → readNumbers vs ≡ onPaper why
-read-none vs why e = ap (λ (p : Paper ℕ). p >>= λ s. sheetNamed s (drop 1 vs)) e ∙ rw (on-paper why .is ℕ)
+-- a fault of form decides, and then a scale that is not named
+pub read-unformed : (bytes : List ℕ) (why : Refusal) → formed bytes ≡ onPaper why → readLabel bytes ≡ onPaper why
+unfolding readLabel
+read-unformed bytes why e = judge-refuses why (scaleFrom (numbersIn bytes) >>= λ s. sheetNamed s bytes) e
 
-module _ (vs : List ℕ) (s : ℕ) (e : scaleFrom vs ≡ answer s) where
-  pub fields-named : Fields s (drop 1 vs)
-  fields-named =
-      let r = named (getD vs 0 0) (length vs) s e in
-      record { scale = r .scale; enough = omega (arith, r .count, length-drop 1 vs) }
+module _ (bytes : List ℕ) (f : wellFormed bytes ≡ true) where
+  read-formed : readLabel bytes ≡ (scaleFrom (numbersIn bytes) >>= λ s. sheetNamed s bytes)
+  unfolding readLabel
+  read-formed = rw (well-formed bytes f)
 
-  pub read-named : readNumbers vs ≡ sheetNamed s (drop 1 vs)
-  read-named = ap (λ (p : Paper ℕ). p >>= λ s. sheetNamed s (drop 1 vs)) e
+  pub read-none : (why : Refusal) → scaleFrom (numbersIn bytes) ≡ onPaper why → readLabel bytes ≡ onPaper why
+  read-none why e = read-formed ∙ sym (asked-on why (λ s. sheetNamed s bytes) (sym e))
+
+  pub read-named : (s : ℕ) → scaleFrom (numbersIn bytes) ≡ answer s → readLabel bytes ≡ sheetNamed s bytes
+  read-named s e = read-formed ∙ ap (λ (p : Paper ℕ). p >>= λ s. sheetNamed s bytes) e
+
+-- the fields behind the first are as many as the scale's labels have
+pub fields-named : (vs : List ℕ) (s : ℕ) → scaleFrom vs ≡ answer s → Fields s (drop 1 vs)
+fields-named vs s e =
+    let r = named (getD vs 0 0) (length vs) s e in
+    record { scale = r .scale; enough = omega (arith, r .count, length-drop 1 vs) }
 
 -- ---- numbers as the code holds them
 

@@ -37,7 +37,7 @@ unfolding join flatMap
 join-first m b [] = refl
 join-first m b (p ∷ ps) = refl
 
-some-pieces : (m : ℕ) (s : List ℕ) → (p : List ℕ) × (ps : List (List ℕ)) × (split m s ≡ p ∷ ps)
+pub some-pieces : (m : ℕ) (s : List ℕ) → (p : List ℕ) × (ps : List (List ℕ)) × (split m s ≡ p ∷ ps)
 unfolding split
 some-pieces m [] = ([], [], refl)
 some-pieces m (b ∷ s) = by (eqb b m) (some-pieces m s)

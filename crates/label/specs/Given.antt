@@ -5,6 +5,7 @@ use mathlib.Core.Path.{_≡_}
 use mathlib.Core.Bool.{cond, _&&_}
 use mathlib.Core.List.{List, [], _∷_, map, flatMap}
 use lib.ListN.{length, take}
+use mir.Val.{boolByte}
 use Rattle.refusal.specs.Paper.{Paper, answer}
 use Rattle.refusal.specs.Numbers.{onPaper}
 use Rattle.division.specs.Words.{between}
@@ -17,7 +18,7 @@ use Rattle.label.specs.declared.reading.Named.the-variants.{Scale}
 use Rattle.label.specs.declared.reading.Reckoned.{Reckoned}
 use Rattle.label.specs.declared.reading.Reckoned.the-variants.{At, Out}
 use Rattle.label.specs.Text.{decimal}
-use Rattle.label.specs.Label.{wellFormed, numbersIn, inRange, placeFrom, countOf, fieldsOf}
+use Rattle.label.specs.Label.{wellFormed, numbersIn, inRange, firstOut, placeFrom, countOf, fieldsOf}
 
 -- ---- reading
 
@@ -41,19 +42,20 @@ pub record Fields (s : ℕ) (fields : List ℕ) : Type 0 where
   pub scale : IsScale s
   pub enough : countOf (made s) ≤ length fields
 
--- the index that fields name, if all are in range, by how the scale is made
+-- the index that fields name, if all are in range, or else the first that is not, by how the scale is made
 unfoldable pub reckon : Made → List ℕ → Reckoned
-reckon m fields = cond (inRange m fields) (At (indexAt m (placeFrom m fields))) Out
+reckon m fields = cond (inRange m fields) (At (indexAt m (placeFrom m fields))) (Out (firstOut m fields))
 
 -- of the area, by its row and its column
 abbrev pub reckonArea : ℕ → ℕ → ℕ → ℕ → Reckoned
 reckonArea rows columns row column =
-    cond (between 101 (100 + rows) row && between 1 columns column) (At ((row - 101) * columns + (column - 1))) Out
+    cond (between 101 (100 + rows) row && between 1 columns column) (At ((row - 101) * columns + (column - 1)))
+    (Out (boolByte (between 101 (100 + rows) row)))
 
--- of those below one that is reckoned, with `each` below one
-abbrev pub reckonBelow : ℕ → ℕ → Reckoned → Reckoned
-reckonBelow index each (At up) = At (index + each * up)
-reckonBelow index each Out = Out
+-- of those below one that is reckoned, with `each` below one, by the fields behind the first i
+abbrev pub reckonBelow : ℕ → ℕ → ℕ → Reckoned → Reckoned
+reckonBelow i index each (At up) = At (index + each * up)
+reckonBelow i index each (Out j) = Out (i + j)
 
 -- ---- writing: for crates/labelling and crates/rows
 

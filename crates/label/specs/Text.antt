@@ -18,6 +18,11 @@ unfoldable pub every : {A : Type 0} → (A → Bool) → List A → Bool
 every test [] = true
 every test (x ∷ xs) = test x && every test xs
 
+-- where the first of a list stands that fails a test; behind the last where all pass
+unfoldable pub firstNot : {A : Type 0} → (A → Bool) → List A → ℕ
+firstNot test [] = 0
+firstNot test (x ∷ xs) = cond (test x) (1 + firstNot test xs) 0
+
 -- a byte in front of the first piece; where there is none, it begins one
 abbrev pub onFirst : ℕ → List (List ℕ) → List (List ℕ)
 onFirst b [] = (b ∷ []) ∷ []

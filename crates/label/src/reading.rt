@@ -1,15 +1,17 @@
 // Label to sheet: form, then scale, then ranges.
+use crate::fault::field_start;
+use crate::fault::form_fault;
 use division::Found;
 use division::table::Scale;
 use refusal::Refusal;
 ghost use mathlib.Core.Path.{_≡_};
-ghost use Prim.Native.Nat.{ℕ, _+_, _*_, _≤_, _<_};
-ghost use lib.ListN.{length, replicate};
+ghost use Prim.Native.Nat.{ℕ, _+_, _*_, _^_, _≤_, _<_};
+ghost use lib.ListN.{length, drop, replicate};
 ghost use Rattle.division.specs.Words.{between};
 ghost use Rattle.division.specs.Table.{made};
 ghost use Rattle.division.specs.Answers.{sheetPaper};
-ghost use Rattle.label.specs.declared.reading.Reckoned.the-variants.{At};
-ghost use Rattle.label.specs.Label.{scaleNamed, sheetNamed, readLabel};
+ghost use Rattle.label.specs.declared.reading.Reckoned.the-variants.{At, Out};
+ghost use Rattle.label.specs.Label.{scaleNamed, numbersIn, sheetNamed, readLabel};
 ghost use Rattle.label.specs.Given.{numbersOf, Held, scalePaper, reckon, Fields, reckonArea, reckonBelow};
 
 fn wide(b: u8) -> u64
@@ -80,45 +82,45 @@ fn scale_named(mark: u64, count: usize) -> Named
     match mark {
         250 => match count {
             3 => Named::Scale(1),
-            _ => Named::Refused(Refusal::LabelForm),
+            _ => Named::Refused(Refusal::NamesNoScale),
         },
         100 => match count {
             3 => Named::Scale(2),
-            _ => Named::Refused(Refusal::LabelForm),
+            _ => Named::Refused(Refusal::NamesNoScale),
         },
         50 => match count {
             3 => Named::Scale(3),
-            _ => Named::Refused(Refusal::LabelForm),
+            _ => Named::Refused(Refusal::NamesNoScale),
         },
         25 => match count {
             4 => Named::Scale(4),
-            _ => Named::Refused(Refusal::LabelForm),
+            _ => Named::Refused(Refusal::NamesNoScale),
         },
         10 => match count {
             4 => Named::Scale(5),
-            _ => Named::Refused(Refusal::LabelForm),
+            _ => Named::Refused(Refusal::NamesNoScale),
         },
         5 => match count {
             5 => Named::Scale(6),
             6 => Named::Scale(9),
-            _ => Named::Refused(Refusal::LabelForm),
+            _ => Named::Refused(Refusal::NamesNoScale),
         },
         2 => match count {
             4 => Named::Scale(7),
-            _ => Named::Refused(Refusal::LabelForm),
+            _ => Named::Refused(Refusal::NamesNoScale),
         },
         1 => match count {
             5 => Named::Scale(8),
-            _ => Named::Refused(Refusal::LabelForm),
+            _ => Named::Refused(Refusal::NamesNoScale),
         },
-        _ => Named::Refused(Refusal::LabelForm),
+        _ => Named::Refused(Refusal::NamesNoScale),
     }
 }
 
-// An index of a scale, or a field that is out of range.
+// An index of a scale, or the first field that is out of range, counted from 0 behind the first number.
 pub enum Reckoned {
     At(u32),
-    Out,
+    Out(usize),
 }
 
 // Is a number that of one of so many parts?
@@ -142,7 +144,7 @@ fn index_from(s: u32, fields: &[u64]) -> Reckoned
         let number = fields[i];
         let parts = t.parts;
         if !is_part(parts, number) {
-            return Reckoned::Out;
+            return Reckoned::Out(i);
         }
         let j = (number - 1) as u32;
         index += each * j;
@@ -153,7 +155,7 @@ fn index_from(s: u32, fields: &[u64]) -> Reckoned
     let row = fields[i];
     let column = fields[i + 1];
     let top = area_index(t.rows, t.columns, row, column);
-    index_below(index, each, top)
+    index_below(i, index, each, top)
 }
 
 fn area_index(rows: u32, columns: u32, row: u64, column: u64) -> Reckoned
@@ -161,58 +163,59 @@ fn area_index(rows: u32, columns: u32, row: u64, column: u64) -> Reckoned
     ensures { λ r. ⌜ r ≡ reckonArea rows columns row column ⌝ }
 {
     let last = 100 + rows as u64;
-    let good = ((101 <= row) & (row <= last)) & ((1 <= column) & (column <= columns as u64));
+    let on_row = (101 <= row) & (row <= last);
+    let on_column = (1 <= column) & (column <= columns as u64);
+    let good = on_row & on_column;
     if !good {
-        return Reckoned::Out;
+        return Reckoned::Out(on_row as usize);
     }
     let up = (row - 101) as u32;
     let left = (column - 1) as u32;
     Reckoned::At(up * columns + left)
 }
 
-// The index `index` of those below one that is reckoned, with `each` below one.
-fn index_below(index: u32, each: u32, above: Reckoned) -> Reckoned
+// The index `index` of those below one that is reckoned, with `each` below one, by the fields behind the first i.
+fn index_below(i: usize, index: u32, each: u32, above: Reckoned) -> Reckoned
     requires { ⌜ ((up : ℕ) → above ≡ At up → index + each * up < 6_000_000) ⌝ }
-    ensures { λ r. ⌜ r ≡ reckonBelow index each above ⌝ }
+    requires { ⌜ ((j : ℕ) → above ≡ Out j → i + j < 2 ^ 64) ⌝ }
+    ensures { λ r. ⌜ r ≡ reckonBelow i index each above ⌝ }
 {
     match above {
-        Reckoned::Out => Reckoned::Out,
+        Reckoned::Out(j) => Reckoned::Out(i + j),
         Reckoned::At(up) => Reckoned::At(index + each * up),
     }
-}
-
-fn is_length(n: usize) -> bool
-    ensures { λ r. ⌜ r ≡ between 1 16 n ⌝ }
-{
-    (1 <= n) & (n <= 16)
 }
 
 // The sheet that a label names.
 pub fn read_label(bytes: &[u8]) -> Found
     ensures { λ r. ⌜ sheetPaper r ≡ readLabel (now (bytes .entry)) ⌝ }
 {
-    if !is_length(bytes.len()) {
-        return Found::Refused(Refusal::LabelForm);
+    if bytes.len() == 0 {
+        return Found::Refused(Refusal::LabelLength(0));
+    }
+    if 16 < bytes.len() {
+        return Found::Refused(Refusal::LabelLength(16));
     }
     let mut values = [0u64; 8];
     let count = numbers_in(bytes, &mut values);
     if count == 0 {
-        return Found::Refused(Refusal::LabelForm);
+        return Found::Refused(form_fault(bytes));
     }
     let first = values[0];
     match scale_named(first, count) {
         Named::Refused(why) => Found::Refused(why),
-        Named::Scale(s) => sheet_from(s, &values[1..count]),
+        Named::Scale(s) => sheet_from(bytes, s, &values[1..count]),
     }
 }
 
-// The sheet of a scale that fields name.
-fn sheet_from(s: u32, fields: &[u64]) -> Found
+// The sheet of a scale that a label names by the fields behind its first.
+fn sheet_from(bytes: &[u8], s: u32, fields: &[u64]) -> Found
     requires { ⌜ Fields s (now fields) ⌝ }
-    ensures { λ r. ⌜ sheetPaper r ≡ sheetNamed s (now (fields .entry)) ⌝ }
+    requires { ⌜ now fields ≡ drop 1 (numbersIn (now bytes)) ⌝ }
+    ensures { λ r. ⌜ sheetPaper r ≡ sheetNamed s (now (bytes .entry)) ⌝ }
 {
     match index_from(s, fields) {
-        Reckoned::Out => Found::Refused(Refusal::FieldRange),
+        Reckoned::Out(i) => Found::Refused(Refusal::FieldRange(field_start(bytes, i + 1))),
         Reckoned::At(i) => Found::Sheet(Scale(s).first() + i),
     }
 }

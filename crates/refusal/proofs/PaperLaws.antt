@@ -8,7 +8,7 @@ use borrow.Author.Tests.{not-true, not-false, le-leb, leb-true}
 use lib.Dec.{leb, eqb}
 use lib.ListN.{length, getD}
 use Rattle.refusal.specs.declared.Refusal.{Refusal}
-use Rattle.refusal.specs.declared.Refusal.the-variants.{PointOutside, NoScale, NoSheet, LabelForm, FieldRange, NoSuch, WindowOrder, WindowOutside, TooMany, Room, EndsEarly, BadNumber, PastLast, MoreBytes, NotRising, NameForm, NameScale, NoNumber}
+use Rattle.refusal.specs.declared.Refusal.the-variants.{PointOutside, NoScale, NoSheet, LabelLength, FieldRange, NoSuch, WindowOrder, WindowOutside, TooMany, Room, EndsEarly, BadNumber, PastLast, MoreBytes, NotRising, NameForm, NameScale, NoNumber, StrangeByte, FieldForm, NamesNoScale}
 use Rattle.refusal.specs.declared.Numbered.{Numbered}
 use Rattle.refusal.specs.declared.Laid.{Laid}
 use Rattle.refusal.specs.declared.Laid.the-variants.{Items, Refused}
@@ -24,9 +24,12 @@ pub holds : {flag test : Bool} → flag ≡ test → not flag ≡ false → test
 holds {flag} e f = sym e ∙ not-false flag f
 
 -- what is answered has passed each line
+pub passed-at : {A : Type 0} (n v : ℕ) (test : Bool) (next : Paper A) {a : A} → ((refuse n at v unless test) >> next) ≡ answer a → (test ≡ true) × (next ≡ answer a)
+passed-at n v true next e = (refl, e)
+passed-at n v false next e = let z : _≡_ {A = ℕ} 0 1 = cc in absurd (omega arith)
+
 pub passed : {A : Type 0} (n : ℕ) (test : Bool) (next : Paper A) {a : A} → ((refuse n unless test) >> next) ≡ answer a → (test ≡ true) × (next ≡ answer a)
-passed n true next e = (refl, e)
-passed n false next e = let z : _≡_ {A = ℕ} 0 1 = cc in absurd (omega arith)
+passed n test next e = passed-at n 0 test next e
 
 -- and each question on the way had its answer
 pub found : {A B : Type 0} (p : Paper A) (next : A → Paper B) {b : B} → (p >>= next) ≡ answer b → (a : A) × (p ≡ answer a) × (next a ≡ answer b)
@@ -40,7 +43,7 @@ same-answer e = cc
 
 -- the refusal of a number and a value
 abbrev refusalAt : ℕ → ℕ → Refusal
-refusalAt n v = getD (PointOutside ∷ NoScale ∷ NoSheet ∷ LabelForm ∷ FieldRange ∷ NoSuch ∷ WindowOrder ∷ WindowOutside ∷ TooMany ∷ Room v ∷ EndsEarly ∷ BadNumber ∷ PastLast ∷ MoreBytes ∷ NotRising ∷ NameForm ∷ NameScale ∷ NoNumber ∷ []) (n - 1) NoNumber
+refusalAt n v = getD (PointOutside ∷ NoScale ∷ NoSheet ∷ LabelLength v ∷ FieldRange v ∷ NoSuch ∷ WindowOrder ∷ WindowOutside ∷ TooMany ∷ Room v ∷ EndsEarly ∷ BadNumber ∷ PastLast ∷ MoreBytes ∷ NotRising ∷ NameForm ∷ NameScale ∷ NoNumber ∷ StrangeByte v ∷ FieldForm v ∷ NamesNoScale ∷ []) (n - 1) NoNumber
 
 -- from the paper back to an answer of a kind
 abbrev pub read : {A X : Type 0} → (X → A) → (Refusal → A) → Paper X → A
@@ -51,8 +54,8 @@ pub read-refusal : {A X : Type 0} (good : X → A) (bad : Refusal → A) (why : 
 read-refusal good bad PointOutside = refl
 read-refusal good bad NoScale = refl
 read-refusal good bad NoSheet = refl
-read-refusal good bad LabelForm = refl
-read-refusal good bad FieldRange = refl
+read-refusal good bad (LabelLength place) = refl
+read-refusal good bad (FieldRange place) = refl
 read-refusal good bad NoSuch = refl
 read-refusal good bad WindowOrder = refl
 read-refusal good bad WindowOutside = refl
@@ -66,6 +69,9 @@ read-refusal good bad NotRising = refl
 read-refusal good bad NameForm = refl
 read-refusal good bad NameScale = refl
 read-refusal good bad NoNumber = refl
+read-refusal good bad (StrangeByte place) = refl
+read-refusal good bad (FieldForm place) = refl
+read-refusal good bad NamesNoScale = refl
 
 -- a refusal is no answer
 pub no-answer : (A : Type 0) (why : Refusal) → isAnswer (onPaper {A = A} why) ≡ false
@@ -88,17 +94,20 @@ pub record OnPaper (why : Refusal) : Type 1 where
   pub bare : carries number ≡ false → value ≡ 0
   pub is : (A : Type 0) → onPaper {A = A} why ≡ refused number value
 
+carried : (number value : ℕ) → carries number ≡ true → carries number ≡ false → value ≡ 0
+carried number value e f = let z : _≡_ {A = ℕ} 0 1 = cc in absurd (omega arith)
+
 pub on-paper : (why : Refusal) → OnPaper why
 on-paper PointOutside = record { number = 1; some = refl; value = 0; bare = λ e. refl; is = λ A. refl }
 on-paper NoScale = record { number = 2; some = refl; value = 0; bare = λ e. refl; is = λ A. refl }
 on-paper NoSheet = record { number = 3; some = refl; value = 0; bare = λ e. refl; is = λ A. refl }
-on-paper LabelForm = record { number = 4; some = refl; value = 0; bare = λ e. refl; is = λ A. refl }
-on-paper FieldRange = record { number = 5; some = refl; value = 0; bare = λ e. refl; is = λ A. refl }
+on-paper (LabelLength place) = record { number = 4; some = refl; value = place; bare = carried 4 place refl; is = λ A. refl }
+on-paper (FieldRange place) = record { number = 5; some = refl; value = place; bare = carried 5 place refl; is = λ A. refl }
 on-paper NoSuch = record { number = 6; some = refl; value = 0; bare = λ e. refl; is = λ A. refl }
 on-paper WindowOrder = record { number = 7; some = refl; value = 0; bare = λ e. refl; is = λ A. refl }
 on-paper WindowOutside = record { number = 8; some = refl; value = 0; bare = λ e. refl; is = λ A. refl }
 on-paper TooMany = record { number = 9; some = refl; value = 0; bare = λ e. refl; is = λ A. refl }
-on-paper (Room needed) = record { number = 10; some = refl; value = needed; bare = λ e. let z : _≡_ {A = ℕ} 0 1 = cc in absurd (omega arith); is = λ A. refl }
+on-paper (Room needed) = record { number = 10; some = refl; value = needed; bare = carried 10 needed refl; is = λ A. refl }
 on-paper EndsEarly = record { number = 11; some = refl; value = 0; bare = λ e. refl; is = λ A. refl }
 on-paper BadNumber = record { number = 12; some = refl; value = 0; bare = λ e. refl; is = λ A. refl }
 on-paper PastLast = record { number = 13; some = refl; value = 0; bare = λ e. refl; is = λ A. refl }
@@ -107,6 +116,9 @@ on-paper NotRising = record { number = 15; some = refl; value = 0; bare = λ e. 
 on-paper NameForm = record { number = 16; some = refl; value = 0; bare = λ e. refl; is = λ A. refl }
 on-paper NameScale = record { number = 17; some = refl; value = 0; bare = λ e. refl; is = λ A. refl }
 on-paper NoNumber = record { number = 18; some = refl; value = 0; bare = λ e. refl; is = λ A. refl }
+on-paper (StrangeByte place) = record { number = 19; some = refl; value = place; bare = carried 19 place refl; is = λ A. refl }
+on-paper (FieldForm place) = record { number = 20; some = refl; value = place; bare = carried 20 place refl; is = λ A. refl }
+on-paper NamesNoScale = record { number = 21; some = refl; value = 0; bare = λ e. refl; is = λ A. refl }
 
 -- and there is one telling of it in numbers
 pub one-numbering : {why : Refusal} {a b : Numbered} → IsNumbered why a → IsNumbered why b → a ≡ b
@@ -153,16 +165,15 @@ pub same-value : {A : Type 0} {m n v w : ℕ} → _≡_ {A = Paper A} (refused m
 same-value e = cc
 
 -- a test alone, and the test for room
+pub passed-test-at : (n v : ℕ) (test : Bool) {u : Unit} → (refuse n at v unless test) ≡ answer u → test ≡ true
+passed-test-at n v true e = refl
+passed-test-at n v false e = absurd (differs (sym e))
+
 pub passed-test : (n : ℕ) (test : Bool) {u : Unit} → (refuse n unless test) ≡ answer u → test ≡ true
-passed-test n true e = refl
-passed-test n false e = absurd (differs (sym e))
+passed-test n test e = passed-test-at n 0 test e
 
 pub passed-room : (needed room : ℕ) {u : Unit} → roomFor needed room ≡ answer u → needed ≤ room
-passed-room needed room e = leb-true needed room (by (leb needed room) e)
-  where
-    by : (test : Bool) {u : Unit {0}} → (refuse 10 at needed unless test) ≡ answer u → test ≡ true
-    by true e = refl
-    by false e = absurd (differs (sym e))
+passed-room needed room e = leb-true needed room (passed-test-at 10 needed (leb needed room) e)
 
 -- any judge, and what comes after it
 pub passed-judge : {A : Type 0} (p : Paper Unit) (next : Paper A) {a : A} → (p >> next) ≡ answer a → (p ≡ answer tt) × (next ≡ answer a)

@@ -10,8 +10,9 @@ pub enum Refusal {
     PointOutside,
     NoScale,
     NoSheet,
-    LabelForm,
-    FieldRange,
+    // of a label too long or empty, and of a field: the place of the first offending byte in the label
+    LabelLength(usize),
+    FieldRange(usize),
     NoSuch,
     WindowOrder,
     WindowOutside,
@@ -26,6 +27,10 @@ pub enum Refusal {
     NameForm,
     NameScale,
     NoNumber,
+    // places in a label again; a label that names no scale is wrong from its first byte on
+    StrangeByte(usize),
+    FieldForm(usize),
+    NamesNoScale,
 }
 
 // What was laid into lent room: so many sheets or bytes, from its first place on; or a refusal, and the room is as it was.
@@ -45,8 +50,8 @@ impl Refusal {
             Refusal::PointOutside => Numbered(1, 0, false),
             Refusal::NoScale => Numbered(2, 0, false),
             Refusal::NoSheet => Numbered(3, 0, false),
-            Refusal::LabelForm => Numbered(4, 0, false),
-            Refusal::FieldRange => Numbered(5, 0, false),
+            Refusal::LabelLength(place) => Numbered(4, place, true),
+            Refusal::FieldRange(place) => Numbered(5, place, true),
             Refusal::NoSuch => Numbered(6, 0, false),
             Refusal::WindowOrder => Numbered(7, 0, false),
             Refusal::WindowOutside => Numbered(8, 0, false),
@@ -60,6 +65,9 @@ impl Refusal {
             Refusal::NameForm => Numbered(16, 0, false),
             Refusal::NameScale => Numbered(17, 0, false),
             Refusal::NoNumber => Numbered(18, 0, false),
+            Refusal::StrangeByte(place) => Numbered(19, place, true),
+            Refusal::FieldForm(place) => Numbered(20, place, true),
+            Refusal::NamesNoScale => Numbered(21, 0, true),
         }
     }
 }

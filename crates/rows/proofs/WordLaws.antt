@@ -10,7 +10,7 @@ use lib.ListN.{length}
 use mir.Syntax.{w64}
 use mir.Val.{toZ, ofZ}
 use Rattle.refusal.specs.Paper.{answer, refused, isAnswer}
-use Rattle.refusal.specs.Numbers.{onPaper}
+use Rattle.refusal.specs.Numbers.{onPaper, carries}
 use Rattle.refusal.specs.Given.{Wrote}
 use Rattle.refusal.specs.declared.Refusal.{Refusal}
 use Rattle.refusal.proofs.PaperLaws.{no-answer}
@@ -34,9 +34,14 @@ pub sheet-words : (n : ℕ) → spaced (words (answer n)) ≡ (32 ∷ decimal n)
 unfolding flatMap
 sheet-words n = refl
 
-pub refusal-words : (number value : ℕ) → spaced (words (refused number value)) ≡ (32 ∷ text "refused") ++ (32 ∷ decimal number)
+-- a refusal, by whether it carries a value
+pub bare-words : (number value : ℕ) → carries number ≡ false → spaced (words (refused number value)) ≡ (32 ∷ text "refused") ++ (32 ∷ decimal number)
 unfolding flatMap
-refusal-words number value = ap (λ (l : List ℕ). (32 ∷ text "refused") ++ l) (append-nil (32 ∷ decimal number))
+bare-words number value e = rw e (ap (λ (l : List ℕ). (32 ∷ text "refused") ++ l) (append-nil (32 ∷ decimal number)))
+
+pub carried-words : (number value : ℕ) → carries number ≡ true → spaced (words (refused number value)) ≡ (32 ∷ text "refused") ++ ((32 ∷ decimal number) ++ (32 ∷ decimal value))
+unfolding flatMap
+carried-words number value e = rw e (ap (λ (l : List ℕ). (32 ∷ text "refused") ++ ((32 ∷ decimal number) ++ l)) (append-nil (32 ∷ decimal value)))
 
 row-is : (number : ℕ) (line : List ℕ) → outputLine number line ≡ decimal number ++ (spaced (words (readLine line)) ++ (10 ∷ []))
 unfolding outputLine join

@@ -1,9 +1,11 @@
 -- The row of a line. Document 01, "The program".
 use Prim.Native.Nat.{ℕ, _/_}
 use Prim.Native.Char.{code}
+use mathlib.Core.Bool.{cond}
 use mathlib.Core.List.{List, [], _∷_, _++_}
 use lib.IntN.{ℤ, natAbs}
 use Rattle.refusal.specs.Paper.{Paper, answer, refused, roomFor, _>>_}
+use Rattle.refusal.specs.Numbers.{carries}
 use Rattle.division.specs.declared.Edges.{Edges}
 use Rattle.division.specs.Sheet.{groundOf}
 use Rattle.label.specs.Text.{text, join, decimal}
@@ -15,10 +17,11 @@ metres x = decimal (natAbs x / 1_000)
 abbrev pub frameWords : Edges → List (List ℕ)
 frameWords f = metres (f .west) ∷ metres (f .east) ∷ metres (f .south) ∷ metres (f .north) ∷ []
 
--- "the sheet number, west, east, south, north in metres, or "refused" and the refusal"
+-- "the sheet number, west, east, south, north in metres, or "refused" and the refusal"; document 02, b): "the program repeat[s] the place
+-- after the number", where the refusal carries one
 abbrev pub words : Paper ℕ → List (List ℕ)
 words (answer n) = decimal n ∷ frameWords (groundOf n)
-words (refused number value) = text "refused" ∷ decimal number ∷ []
+words (refused number value) = text "refused" ∷ decimal number ∷ cond (carries number) (decimal value ∷ []) []
 
 -- "For each it prints the line's number from 1, then ..; single spaces"
 unfoldable pub outputLine : ℕ → List ℕ → List ℕ

@@ -128,14 +128,19 @@ fn put_edges(e: Edges, out: &mut [u8], at: usize) -> usize
     put_metres(e.north, out, c)
 }
 
+// The word, the number, and the value where the refusal carries one, also where that is 0.
 fn put_refusal(why: Refusal, out: &mut [u8], at: usize) -> usize
-    requires { ⌜ at + 19 ≤ length (now out) ⌝ }
+    requires { ⌜ at + 40 ≤ length (now out) ⌝ }
     ensures { λ r. ⌜ Wrote (now (out .entry)) at (now (out .exit)) r (spaced (words (onPaper why))) ⌝ }
-    ensures { λ r. ⌜ r ≤ at + 19 ⌝ }
+    ensures { λ r. ⌜ r ≤ at + 40 ⌝ }
 {
     lay(b" refused", &mut out[at..]);
-    let number = why.numbered().0;
-    put_spaced(number as u64, out, at + 8)
+    let told = why.numbered();
+    let a = put_spaced(told.0 as u64, out, at + 8);
+    if !told.2 {
+        return a;
+    }
+    put_spaced(told.1 as u64, out, a)
 }
 
 // The rest of a row: the sheet and its edges, or the refusal, each word behind a space.

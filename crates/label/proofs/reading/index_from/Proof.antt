@@ -3,7 +3,7 @@ use mathlib.Core.Path.{_∙_}
 use native.Mathlib.Omega.{arith}
 use borrow.Author.Needs.{needs}
 use Rattle.refusal.proofs.PaperLaws.{fails, holds}
-use Rattle.label.proofs.ReckonLaws.{Reckoning, reckoning-first, last-fields, area-few, top-below, reckoning-done, next-field, parts-few, each-small, higher, reckoning-out, in-range, sum-less, reckoning-next}
+use Rattle.label.proofs.ReckonLaws.{Reckoning, reckoning-first, last-fields, area-few, top-below, top-out, reckoning-done, next-field, parts-few, each-small, higher, reckoning-out, in-range, sum-less, reckoning-next}
 use Rattle.label.proofs.reading.index_from.Statement.{statement}
 use Rattle.label.proofs.reading.index_from.Tie as tie
 
@@ -97,7 +97,10 @@ area-index-requires c κs = area-few (c .before .before .before .before .loop .i
 index-below-requires : tie.Need-index-below-requires Inv-loop μ-loop
 index-below-requires c κs =
     let d = c .before .before .before in
-    top-below (d .before .before .loop .inv) (d .if1 .left) (c .area-index .result) (c .area-index .ensures)
+    let w = d .before .before .loop .inv in (
+      top-below w (d .if1 .left) (c .area-index .result) (c .area-index .ensures),
+      λ j g. omega (arith, top-out w (d .if1 .left) (c .area-index .result) (c .area-index .ensures) j g, last-fields w (d .if1 .left)),
+    )
 
 returns-2 : tie.Need-returns-2 Inv-loop μ-loop
 returns-2 c =

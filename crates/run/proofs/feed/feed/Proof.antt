@@ -7,7 +7,7 @@ use native.Mathlib.Omega.{arith}
 use lib.ListN.{length, getD, drop, length-drop}
 use lib.Seq.{length-take-le}
 use Rattle.refusal.proofs.WroteLaws.{rest-is}
-use Rattle.catalogue.proofs.PieceLaws.{piece-within}
+use Rattle.label.proofs.PieceLaws.{piece-within}
 use Rattle.run.specs.Program.{pieces}
 use Rattle.run.proofs.FeedLaws.{Going, going-first, going-on, going-full, going-none}
 use Rattle.run.proofs.feed.feed.Statement.{statement}

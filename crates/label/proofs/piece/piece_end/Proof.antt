@@ -3,9 +3,9 @@ use mathlib.Core.Path.{_≡_}
 use Prim.Native.Nat.{_+_, _-_, _≤_}
 use native.Mathlib.Omega.{arith}
 use lib.ListN.{length, drop}
-use Rattle.catalogue.proofs.PieceLaws.{piece, at-mark, past-byte, at-end}
-use Rattle.catalogue.proofs.piece.piece_end.Statement.{statement}
-use Rattle.catalogue.proofs.piece.piece_end.Tie as tie
+use Rattle.label.proofs.PieceLaws.{piece, at-mark, past-byte, at-end}
+use Rattle.label.proofs.piece.piece_end.Statement.{statement}
+use Rattle.label.proofs.piece.piece_end.Tie as tie
 
 abbrev Inv-loop : tie.InvT-loop
 Inv-loop bytes mark i₀ i = (i ≤ length bytes) × (length (piece mark bytes) ≡ i + length (piece mark (drop i bytes)))

@@ -1,0 +1,77 @@
+-- A field more is passed at each turn, with its hyphen, and where all in front are passed the field begins. Assumes nothing.
+use mathlib.Core.Path.{_≡_, ap, _∙_}
+use mathlib.Core.List.{List, []}
+use Prim.Native.Nat.{ℕ, _-_}
+use native.Mathlib.Omega.{arith}
+use borrow.Author.Needs.{needs}
+use lib.ListN.{length, getD, drop, length-drop}
+use lib.Seq.{take-all}
+use Rattle.label.specs.Text.{split}
+use Rattle.label.proofs.PieceLaws.{piece}
+use Rattle.label.proofs.PlaceLaws.{Passing, none-passed, all-passed, hyphen-behind, one-passed}
+use Rattle.label.proofs.fault.field_start.Statement.{statement}
+use Rattle.label.proofs.fault.field_start.Tie as tie
+
+abbrev Inv-loop : tie.InvT-loop
+Inv-loop bytes k start₀ i₀ start i = Passing bytes k start i
+
+abbrev μ-loop : tie.MeasureT-loop
+μ-loop bytes k start₀ i₀ start i = k - i
+
+loop-holds : tie.Need-loop-holds Inv-loop μ-loop
+loop-holds c = none-passed (c .before .args .bytes .now) (c .before .args .k) (c .before .pre)
+
+sub-piece-end : tie.Need-sub-piece-end Inv-loop μ-loop
+sub-piece-end c = omega (arith, c .before .loop .inv .within)
+
+part-piece-end-start : tie.Need-part-piece-end-start Inv-loop μ-loop
+part-piece-end-start c = omega (arith, c .before .loop .inv .within)
+
+part-piece-end-end : tie.Need-part-piece-end-end Inv-loop μ-loop
+part-piece-end-end c = omega arith
+
+piece-end-requires : tie.Need-piece-end-requires Inv-loop μ-loop
+piece-end-requires c κs = search needs
+
+-- the part from `start` on is all that is left, so its first piece is the field that begins there
+field : (c : tie.After-piece-end Inv-loop μ-loop) → c .piece-end .result ≡ length (piece 45 (drop (c .before .before .before .loop .start) (c .before .before .before .before .before .args .bytes .now)))
+field c =
+    let l = c .before .before .before in
+    let s = l .before .before .args .bytes .now in
+    c .piece-end .ensures ∙ ap (λ (l : List ℕ). length (getD (split 45 l) 0 [])) (take-all (length s - l .loop .start) (drop (l .loop .start) s) (omega (arith, length-drop (l .loop .start) s)))
+
+add-start : tie.Need-add-start Inv-loop μ-loop
+add-start c = let i = c .before .before in omega (arith, field c, hyphen-behind (i .before .loop .inv) (i .loop-test .taken))
+
+add-start-2 : tie.Need-add-start-2 Inv-loop μ-loop
+add-start-2 c = let i = c .before .before in omega (arith, field c, hyphen-behind (i .before .loop .inv) (i .loop-test .taken))
+
+add-i : tie.Need-add-i Inv-loop μ-loop
+add-i c = search needs
+
+loop-less : tie.Need-loop-less Inv-loop μ-loop
+loop-less c = search needs
+
+loop-again : tie.Need-loop-again Inv-loop μ-loop
+loop-again c = let i = c .before .before in rw (field c) (one-passed (i .before .loop .inv) (i .loop-test .taken))
+
+returns : tie.Need-returns Inv-loop μ-loop
+returns c = all-passed (c .before .loop .inv) (c .loop-test .left)
+
+pub field-start-spec : {M : Type 1} → statement M
+field-start-spec =
+    tie.close
+    (tie.spec
+    Inv-loop
+    μ-loop
+    loop-holds
+    sub-piece-end
+    part-piece-end-start
+    part-piece-end-end
+    piece-end-requires
+    add-start
+    add-start-2
+    add-i
+    loop-less
+    loop-again
+    returns)
