@@ -6,9 +6,9 @@ use crate::room;
 use crate::sheets;
 use crate::write;
 use crate::write::OUT;
-use label::reading::read_label;
 use labelling::writing::label_length;
 use labelling::writing::write_label;
+use reading::labels::read_label;
 
 // The label is what follows the word and a space.
 pub(crate) fn label(s: &[u8]) {

@@ -3,7 +3,7 @@
 use mathlib.Core.Path.{_≡_, refl, sym, ap, _∙_}
 use mathlib.Core.Bool.{Bool, true, false, cond}
 use mathlib.Core.List.{List}
-use mathlib.Core.Logic.{⊎-elim}
+use mathlib.Core.Logic.{_↔_, ⊎-elim}
 use Prim.Native.Nat.{ℕ, _+_, _≤_, _<_}
 use native.Mathlib.Omega.{arith}
 use borrow.Author.Tests.{le-leb, lt-leb, lt-ltb}
@@ -11,7 +11,8 @@ use lib.ListN.{length, take, length-take, length-drop}
 use lib.Seq.{take-all}
 use denote.Ref.{RefT, ptr, now}
 use Rattle.refusal.specs.Paper.{Paper, answer, refused, refuse_unless_, _>>_, _>>=_}
-use Rattle.refusal.proofs.PaperLaws.{passed, found}
+use Rattle.refusal.specs.Numbers.{carries}
+use Rattle.refusal.proofs.PaperLaws.{passed, found, differs, same-number}
 use Rattle.division.specs.Words.{_≤?_}
 use Rattle.division.specs.Sheet.{isSheet, scaleOf}
 use Rattle.division.proofs.TestLaws.{le-or-less}
@@ -67,6 +68,27 @@ label-answers line n e =
     by : (named : Bool) (m : ℕ) → cond named (withName (nameIn line) m) (answer m) ≡ answer n → answer m ≡ answer n
     by true m g = passed 16 (isName (nameIn line)) _ (passed 17 (scaleOf m ≤? 6) _ g .1) .1
     by false m g = g
+
+-- "The line reader .. repeat[s] the place": a refusal that carries one is the label's, with its number and its place
+pub label-refuses : (line : List ℕ) (number place : ℕ) → carries number ≡ true → (readLine line ≡ refused number place) ↔ (readLabel (labelIn line) ≡ refused number place)
+unfolding readLine withName
+label-refuses line number place c = (by (readLabel (labelIn line)), λ e. rw e)
+  where
+    bare : (n : ℕ) → carries n ≡ false → _≡_ {A = Paper ℕ} (refused n 0) (refused number place) → ⊥
+    bare n d e = let f : true ≡ false = sym c ∙ ap carries (sym (same-number e)) ∙ d in let z : _≡_ {A = ℕ} 0 1 = cc in omega arith
+
+    named : (n : ℕ) (s m : Bool) → ((refuse 17 unless s) >> ((refuse 16 unless m) >> answer n)) ≡ refused number place → ⊥
+    named n true true e = differs e
+    named n true false e = bare 16 refl e
+    named n false m e = bare 17 refl e
+
+    behind : (n : ℕ) (has : Bool) → cond has (withName (nameIn line) n) (answer n) ≡ refused number place → ⊥
+    behind n true e = named n (scaleOf n ≤? 6) (isName (nameIn line)) e
+    behind n false e = differs e
+
+    by : (p : Paper ℕ) → (p >>= λ n. cond (hasName line) (withName (nameIn line) n) (answer n)) ≡ refused number place → p ≡ refused number place
+    by (answer n) e = absurd (behind n (hasName line) e)
+    by (refused n v) e = e
 
 pub line-sheet : (line : List ℕ) (n : ℕ) → readLine line ≡ answer n → isSheet n ≡ true
 line-sheet line n e = was-written (labelIn line) n (label-answers line n e) .sheet

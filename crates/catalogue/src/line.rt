@@ -1,8 +1,8 @@
 // The sheet or refusal of a line.
 use division::Found;
 use division::table::Scale;
-use label::piece::piece_end;
-use label::reading::read_label;
+use fault::piece::piece_end;
+use reading::labels::read_label;
 use refusal::Refusal;
 ghost use mathlib.Core.Path.{_≡_};
 ghost use Prim.Native.Nat.{min};

@@ -1,6 +1,6 @@
 -- The three demands hold: each proposition is a theorem of its topic. Assumes nothing.
 use Rattle.demands.specs.Demands.{Demands}
-use Rattle.demands.proofs.Refusals.{refusals-numbered}
+use Rattle.demands.proofs.Refusals.{refusals-numbered, places-told}
 use Rattle.demands.proofs.Room.{room-kept}
 use Rattle.demands.proofs.Sheets.{table-adds-up, each-point-in-one-sheet, each-sheet-has-corners, sheet-is-located, parent-and-child, step-and-offset, neighbours-are-around, cover-is-what-shares}
 use Rattle.demands.proofs.Labels.{each-label-reads-back, one-ground-one-spelling}
@@ -9,6 +9,7 @@ use Rattle.demands.proofs.Lists.{placed-kept, count-needs-room, each-se
 pub demands : Demands
 demands = record {
   refusals-numbered = refusals-numbered;
+  places-told = places-told;
   room-kept = room-kept;
   placed-kept = placed-kept;
   count-needs-room = count-needs-room;

@@ -1,4 +1,5 @@
--- Each question gives only the refusals listed for it: they are those of the lines of its definition. Assumes nothing.
+-- Each question gives only the refusals listed for it: they are those of the lines of its definition. What a label's refusal carries is the
+-- place of its fault. Assumes nothing.
 use mathlib.Core.Path.{refl, sym, subst}
 use mathlib.Core.List.{[], _∷_}
 use Rattle.division.specs.Words.{_≤?_, _=?_}
@@ -11,10 +12,12 @@ use Rattle.frame.specs.Metres.{frameOf, sheetAtMetres, frameAtMetres}
 use Rattle.frame.proofs.PointTheorems.{answered}
 use Rattle.frame.proofs.FrameTheorems.{frame-exact}
 use Rattle.label.specs.Label.{labelOf, writeLabel, labelLength}
+use Rattle.label.proofs.PlaceTheorems.{refused-iff, place-within}
+use Rattle.catalogue.proofs.LineTheorems.{label-refuses}
 use Rattle.shelf.specs.Kind.{ofSheets}
 use Rattle.shelf.specs.Writing.{listBytes, writeIn, lengthIn}
 use Rattle.shelf.specs.Reading.{behindIn, readIn}
-use Rattle.demands.specs.Refusals.{Gives, answers, RefusalsNumbered}
+use Rattle.demands.specs.Refusals.{Gives, answers, RefusalsNumbered, PlacesTold}
 use Rattle.demands.proofs.GivesLaws.{test-gives, then-gives, line-gives, found-gives, answered-gives, read-gives, metres-give, room-gives, laid-gives, label-gives, line-of-gives, cover-gives, set-gives, number-gives, entries-give}
 
 pub refusals-numbered : RefusalsNumbered
@@ -50,3 +53,6 @@ refusals-numbered = record {
       read-gives _ (room-gives count room refl) λ fit.
       entries-give ofSheets (λ n. test-gives 13 (isSheet n) refl) refl refl refl count 0 (first .rest);
 }
+
+pub places-told : PlacesTold
+places-told = record { wrong = refused-iff; within = place-within; repeated = label-refuses }

@@ -2,7 +2,7 @@
 -- topic: Refusals, Room, Sheets, Labels or Lists. They speak in document 01's definitions, which stand in specs/ of the crates below.
 -- proofs/Demands claims the whole, `demands : Demands`; proofs/TOPIC has a theorem of each proposition, under the same name in small
 -- letters. That a function answers what its definition gives, whatever it is asked, is the function's own promise.
-use Rattle.demands.specs.Refusals.{RefusalsNumbered}
+use Rattle.demands.specs.Refusals.{RefusalsNumbered, PlacesTold}
 use Rattle.demands.specs.Room.{RoomKept}
 use Rattle.demands.specs.Sheets.{TableAddsUp, EachPointInOneSheet, EachSheetHasCorners, SheetIsLocated, ParentAndChild, StepAndOffset, NeighboursAreAround, CoverIsWhatShares}
 use Rattle.demands.specs.Labels.{EachLabelReadsBack, OneGroundOneSpelling}
@@ -11,6 +11,8 @@ use Rattle.demands.specs.Lists.{PlacedKept, CountNeedsRoom, EachSetIsWri
 pub record Demands : Type 0 where
   -- 1: "Every point, scale, sheet number, label, window and shelf list gets its answer or document 01's numbered refusal"
   pub refusals-numbered : RefusalsNumbered
+  -- document 02, b): "Each, and 5 too, carries the place of the first offending byte in the label"
+  pub places-told : PlacesTold
   -- "A refusal writes nothing into lent room", "save that the list reader keeps the whole sheets it has placed and says how many"
   pub room-kept : RoomKept
   pub placed-kept : PlacedKept

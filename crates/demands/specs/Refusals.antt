@@ -1,8 +1,10 @@
--- Demand 1: the refusals that each question can give.
-use Prim.Native.Nat.{ℕ}
+-- Demand 1: the refusals that each question can give, and the places that they carry.
+use Prim.Native.Nat.{ℕ, _≤_}
 use mathlib.Core.Path.{_≡_}
 use mathlib.Core.Bool.{true, false}
 use mathlib.Core.List.{List, [], _∷_}
+use mathlib.Core.Logic.{_↔_}
+use lib.ListN.{length}
 use lib.IntN.{ℤ}
 use lib.Ieee.{Float}
 use Rattle.refusal.specs.Paper.{Paper, answer, refused}
@@ -14,7 +16,8 @@ use Rattle.relations.specs.Relations.{parent, child, step, offset}
 use Rattle.division.specs.Cover.{cover, blockIn}
 use Rattle.frame.specs.Metres.{frameOf, sheetAtMetres, frameAtMetres}
 use Rattle.label.specs.Label.{readLabel, writeLabel, labelLength}
-use Rattle.catalogue.specs.Line.{readLine}
+use Rattle.label.specs.Theorems.{Wrong}
+use Rattle.catalogue.specs.Line.{labelIn, readLine}
 use Rattle.shelf.specs.Writing.{writeList, listLength}
 use Rattle.shelf.specs.Reading.{readList}
 
@@ -53,3 +56,14 @@ pub record RefusalsNumbered : Type 0 where
   pub sized : (sheets : List ℕ) → Gives (9 ∷ 3 ∷ 15 ∷ []) (listLength sheets)
   -- "11 .. 12 .. a count above the lent room gives 10. Each entry then gives 11, 12, 13 or a sheet. After the last entry .. 14"
   pub reading : (bytes : List ℕ) (room : ℕ) → Gives (11 ∷ 12 ∷ 10 ∷ 13 ∷ 14 ∷ []) (readList bytes room .ended)
+
+-- document 02, b): "Each, and 5 too, carries the place of the first offending byte in the label"
+pub record PlacesTold : Type 0 where
+  -- exactly what is wrong, by kind and with its place (`Wrong`: label/specs/Theorems)
+  pub wrong : (label : List ℕ) (number place : ℕ) → (readLabel label ≡ refused number place) ↔ Wrong label number place
+  -- a place is within the label or at its end
+  pub within : (label : List ℕ) (number place : ℕ) → readLabel label ≡ refused number place → place ≤ length label
+  -- "The line reader .. repeat[s] the place"
+  pub repeated :
+      (line : List ℕ) (number place : ℕ) → carries number ≡ true →
+      (readLine line ≡ refused number place) ↔ (readLabel (labelIn line) ≡ refused number place)

@@ -12,14 +12,14 @@ use lib.ListN.{length, getD, drop, length-drop}
 use Rattle.refusal.specs.Paper.{answer}
 use Rattle.refusal.proofs.PaperLaws.{passed-at, passed-judge, found, same-answer}
 use Rattle.division.specs.declared.Place.{Place}
-use Rattle.division.specs.Words.{between, from, keep}
-use Rattle.division.specs.Table.{Made, ofArea, ofScale, table, tableRow, rowsOf, columnsOf, made}
+use Rattle.division.specs.Words.{between}
+use Rattle.division.specs.Table.{Made, ofArea, ofScale, rowsOf, columnsOf, made}
 use Rattle.division.specs.Sheet.{isSheet, scaleOf, placeOf, sheetOf, parentPlace}
 use Rattle.division.specs.Given.{IsScale, OnGrid}
 use Rattle.division.specs.Theorems.{SameGround}
 use Rattle.division.proofs.TestLaws.{both, between-in}
 use Rattle.division.proofs.MadeLaws.{Sound, On, number-few, on-parent}
-use Rattle.division.proofs.TableLaws.{Each, each, rules, scale, is-scale}
+use Rattle.division.proofs.TableLaws.{rules, is-scale}
 use Rattle.division.proofs.NumberLaws.{on-grid, sheet-place, scale-sheet, place-sheet, is-sheet}
 use Rattle.division.proofs.GroundTheorems.{ground-tells}
 use Rattle.label.specs.Text.{every, split, join, value, digits, withoutZeros, decimal}
@@ -31,7 +31,7 @@ use Rattle.label.proofs.LengthLaws.{Short, sizes}
 use Rattle.label.proofs.ByteLaws.{decimal-digits}
 use Rattle.label.proofs.SpellLaws.{digits-free, pieces, pieces-spelt}
 use Rattle.label.proofs.FormLaws.{well-formed, formed-well}
-use Rattle.label.proofs.NamedLaws.{named}
+use Rattle.label.proofs.NamedLaws.{named, marked}
 use Rattle.label.proofs.WritingTheorems.{labels-short, labels-plain}
 
 -- ---- what is written is well formed
@@ -75,17 +75,6 @@ values-back (n ∷ ns) h = ap₂ (λ (a : ℕ) (b : List ℕ). a ∷ b) (value-d
 
 split-back : (n : ℕ) (ns : List ℕ) → split 45 (join 45 (map decimal (n ∷ ns))) ≡ map decimal (n ∷ ns)
 split-back n ns = split-join 45 (decimal n) (map decimal ns) (digits-free (decimal n) (decimal-digits n)) (free-all ns)
-
--- the nine scales: the first number and the count of fields name the scale
-record Marked (s : ℕ) : Type 0 where
-  named : scaleWith (markOf s) (1 + countOf (made s)) ≡ s
-
-nine : Each Marked 9
-unfolding table tableRow markOf countOf scaleWith keep from
-nine = search tt
-
-marked : {s : ℕ} → IsScale s → Marked s
-marked {s} h = each Marked 9 nine s (h .one) (h .nine)
 
 few-fields : (m : Made) (p : Place) → Short m → Sound m → On m p → Few (fieldsOf m p)
 unfolding fieldsOf rowsOf columnsOf

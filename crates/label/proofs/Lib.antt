@@ -8,9 +8,9 @@ pub mod SizeLaws
 pub mod LengthLaws
 pub mod ByteLaws
 pub mod WritingTheorems
-pub mod ScanLaws
-pub mod ReckonLaws
 pub mod PieceLaws
 pub mod PlaceLaws
 pub mod FormLaws
 pub mod NamedLaws
+pub mod FaultLaws
+pub mod PlaceTheorems

@@ -13,23 +13,18 @@ use Rattle.refusal.specs.Paper.{Paper, answer, _>>=_}
 use Rattle.refusal.specs.Numbers.{onPaper}
 use Rattle.refusal.proofs.PaperLaws.{passed, same-answer, judge-refuses, asked-on}
 use Rattle.division.specs.Words.{_=?_, from, keep}
-use Rattle.division.specs.Table.{isScale, made}
+use Rattle.division.specs.Table.{isScale, made, table, tableRow}
 use Rattle.division.specs.Given.{IsScale}
 use Rattle.division.proofs.TestLaws.{both}
-use Rattle.division.proofs.TableLaws.{scale}
+use Rattle.division.proofs.TableLaws.{Each, each, scale}
 use Rattle.division.proofs.MemberLaws.{from-has, keep-has}
 use Rattle.label.specs.Text.{value}
 use Rattle.label.specs.Label.{markOf, countOf, scaleWith, scaleNamed, wellFormed, formed, numbersIn, sheetNamed, readLabel}
-use Rattle.label.specs.Given.{numbersOf, Held, Fields}
+use Rattle.label.specs.Theorems.{Named}
 use Rattle.label.proofs.SplitLaws.{some-pieces}
 use Rattle.label.proofs.FormLaws.{well-formed}
 
 -- ---- the scale
-
-pub record Named (m n s : ℕ) : Type 0 where
-  pub scale : IsScale s
-  pub mark : markOf s ≡ m
-  pub count : 1 + countOf (made s) ≡ n
 
 first-in : (l : List ℕ) → (getD l 0 0 ≡ 0 → ⊥) → List·Memᴰ (getD l 0 0) l
 first-in [] n = absurd (n refl)
@@ -54,27 +49,21 @@ named mark count s e =
     let p = passed 21 (isScale (scaleWith mark count)) _ e in
     rw (same-answer (p .1)) at (with mark count (λ z. omega (arith, scale (scaleWith mark count) (p .0))))
 
+-- the nine scales: the first number and the count of fields name the scale
+pub record Marked (s : ℕ) : Type 0 where
+  pub named : scaleWith (markOf s) (1 + countOf (made s)) ≡ s
+
+nine : Each Marked 9
+unfolding table tableRow markOf countOf scaleWith keep from
+nine = search tt
+
+pub marked : {s : ℕ} → IsScale s → Marked s
+marked {s} h = each Marked 9 nine s (h .one) (h .nine)
+
 -- ---- the label
 
 abbrev pub scaleFrom : List ℕ → Paper ℕ
 scaleFrom vs = scaleNamed (getD vs 0 0) (length vs)
-
--- the code has numbers of a label exactly if it is well formed
-pub unformed : (bytes : List ℕ) → length (numbersOf bytes) ≡ 0 → wellFormed bytes ≡ false
-unfolding numbersOf
-unformed bytes = by (wellFormed bytes)
-  where
-    by : (b : Bool) → length (cond b (numbersIn bytes) []) ≡ 0 → b ≡ false
-    by true e = let p = some-pieces 45 bytes in let z : suc (length (map value (p .1))) ≡ 0 = rw (p .2) at e in absurd (omega arith)
-    by false e = refl
-
-pub well : (bytes : List ℕ) → (length (numbersOf bytes) ≡ 0 → ⊥) → (wellFormed bytes ≡ true) × (numbersOf bytes ≡ numbersIn bytes)
-unfolding numbersOf
-well bytes = by (wellFormed bytes)
-  where
-    by : (b : Bool) → (length (cond b (numbersIn bytes) []) ≡ 0 → ⊥) → (b ≡ true) × (cond b (numbersIn bytes) [] ≡ numbersIn bytes)
-    by true n = (refl, refl)
-    by false n = absurd (n refl)
 
 -- a fault of form decides, and then a scale that is not named
 pub read-unformed : (bytes : List ℕ) (why : Refusal) → formed bytes ≡ onPaper why → readLabel bytes ≡ onPaper why
@@ -91,27 +80,3 @@ module _ (bytes : List ℕ) (f : wellFormed bytes ≡ true) where
 
   pub read-named : (s : ℕ) → scaleFrom (numbersIn bytes) ≡ answer s → readLabel bytes ≡ sheetNamed s bytes
   read-named s e = read-formed ∙ ap (λ (p : Paper ℕ). p >>= λ s. sheetNamed s bytes) e
-
--- the fields behind the first are as many as the scale's labels have
-pub fields-named : (vs : List ℕ) (s : ℕ) → scaleFrom vs ≡ answer s → Fields s (drop 1 vs)
-fields-named vs s e =
-    let r = named (getD vs 0 0) (length vs) s e in
-    record { scale = r .scale; enough = omega (arith, r .count, length-drop 1 vs) }
-
--- ---- numbers as the code holds them
-
-take-none : (n : ℕ) → _≡_ {A = List ℕ} (take n []) []
-take-none zero = refl
-take-none (suc n) = refl
-
-drop-take : (n : ℕ) (l : List ℕ) → take (n - 1) (drop 1 l) ≡ drop 1 (take n l)
-drop-take zero l = refl
-drop-take (suc n) [] = take-none (suc n - 1)
-drop-take (suc n) (x ∷ l) = rw (sub-one (suc n))
-
-module _ {vs values : List ℕ} {count : ℕ} (h : Held vs values count) where
-  pub first-held : 0 < count → getD values 0 0 ≡ getD vs 0 0
-  first-held l = sym (getD-take count values 0 0 l) ∙ ap (λ (l : List ℕ). getD l 0 0) (h .front)
-
-  pub others-held : take (count - 1) (drop 1 values) ≡ drop 1 vs
-  others-held = drop-take count values ∙ ap (λ (l : List ℕ). drop 1 l) (h .front)

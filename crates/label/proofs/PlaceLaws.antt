@@ -95,57 +95,80 @@ start-next k field fields =
     let others = flatMap (λ other. other ++ (45 ∷ [])) (take k fields) in
     omega (arith, length-append (field ++ (45 ∷ [])) others, length-append field (45 ∷ []))
 
--- field by field: `start` is where one begins, and `left` others are to be passed
+pub start-none : (k : ℕ) → startOf k [] ≡ 0
+unfolding startOf flatMap
+start-none zero = refl
+start-none (suc k) = refl
+
+-- field by field: `start` is where one begins and `left` others are to be passed, or there is none left
 pub record Passing (s : List ℕ) (k start i : ℕ) : Type 0 where
   pub left : ℕ
   pub counted : i + left ≡ k
-  pub within : start ≤ length s
-  pub there : left < length (split 45 (drop start s))
-  pub rest : startOf k (split 45 s) ≡ start + startOf left (split 45 (drop start s))
+  pub within : start ≤ length s + 1
+  pub rest : start ≤ length s → startOf k (split 45 s) ≡ start + startOf left (split 45 (drop start s))
+  pub done : length s < start → startOf k (split 45 s) ≡ start
 
-pub none-passed : (s : List ℕ) (k : ℕ) → k < length (split 45 s) → Passing s k 0 0
-none-passed s k h = record { left = k; counted = omega arith; within = omega arith; there = h; rest = omega arith }
+pub none-passed : (s : List ℕ) (k : ℕ) → Passing s k 0 0
+none-passed s k = record { left = k; counted = omega arith; within = omega arith; rest = λ h. omega arith; done = λ h. absurd (omega arith) }
 
 module _ {s : List ℕ} {k start i : ℕ} (w : Passing s k start i) where
   pub all-passed : k ≤ i → start ≡ startOf k (split 45 s)
   all-passed h =
       let z : w .left ≡ 0 = omega (arith, w .counted) in
-      sym (w .rest ∙ rw (z, start-first (split 45 (drop start s))) (omega arith))
+      ⊎-elim (λ l. sym (w .rest l ∙ rw (z, start-first (split 45 (drop start s))) (omega arith))) (λ l. sym (w .done l)) (le-or-less start (length s))
 
-  module _ (h : i < k) where
+  module _ (h : i < k) (l : start ≤ length s) where
     abbrev t : List ℕ
     t = drop start s
 
-    -- a further field follows, so there is a hyphen behind this one
-    pub hyphen-behind : start + length (piece 45 t) < length s
-    hyphen-behind = ⊎-elim (λ l. absurd (omega (arith, w .counted, w .there, ap length (last-piece 45 t l)))) (λ l. omega (arith, length-drop start s)) (le-or-less (length t) (length (piece 45 t)))
-
     pub one-passed : Passing s k (start + (length (piece 45 t) + 1)) (i + 1)
-    one-passed =
-        let p = length (piece 45 t) in
-        let j = w .left - 1 in
-        let more : w .left ≡ suc j = omega (arith, w .counted) in
-        let e = next-piece 45 t (omega (arith, hyphen-behind, length-drop start s)) in
-        let d : drop (suc p) t ≡ drop (start + (p + 1)) s = rw (← add-one p) (drop-drop (p + 1) start s) in
-        let f : startOf (w .left) (split 45 t) ≡ suc p + startOf j (split 45 (drop (suc p) t)) = ap (λ (n : ℕ). startOf n (split 45 t)) more ∙ ap (startOf (suc j)) e ∙ start-next j (piece 45 t) (split 45 (drop (suc p) t)) in
-        record {
+    one-passed = ⊎-elim last next (le-or-less (length t) (length (piece 45 t)))
+      where
+        p : ℕ
+        p = length (piece 45 t)
+
+        j : ℕ
+        j = w .left - 1
+
+        more : w .left ≡ suc j
+        more = omega (arith, w .counted)
+
+        -- the fields from here on, with this one passed
+        on : (fields : List (List ℕ)) → split 45 t ≡ piece 45 t ∷ fields → startOf k (split 45 s) ≡ start + (p + 1) + startOf j fields
+        on fields e =
+            let f : startOf (w .left) (split 45 t) ≡ suc p + startOf j fields = ap (λ (n : ℕ). startOf n (split 45 t)) more ∙ ap (startOf (suc j)) e ∙ start-next j (piece 45 t) fields in
+            omega (arith, w .rest l, f)
+
+        last : length t ≤ p → Passing s k (start + (p + 1)) (i + 1)
+        last g = record {
           left = j;
           counted = omega (arith, w .counted);
-          within = omega (arith, hyphen-behind);
-          there = rw (← d) (omega (arith, w .there, ap length e));
-          rest = rw (← d) (omega (arith, w .rest, f));
+          within = omega (arith, piece-within 45 t, length-drop start s);
+          rest = λ m. absurd (omega (arith, length-drop start s));
+          done = λ m. on [] (last-piece 45 t g) ∙ rw (start-none j) (omega arith);
         }
+
+        next : p < length t → Passing s k (start + (p + 1)) (i + 1)
+        next g =
+            let d : drop (suc p) t ≡ drop (start + (p + 1)) s = rw (← add-one p) (drop-drop (p + 1) start s) in
+            record {
+              left = j;
+              counted = omega (arith, w .counted);
+              within = omega (arith, length-drop start s);
+              rest = λ m. rw (← d) (on (split 45 (drop (suc p) t)) (next-piece 45 t g));
+              done = λ m. absurd (omega (arith, length-drop start s));
+            }
 
 -- ---- the first field that is empty or has a leading zero
 
 abbrev pub faultyAt : List ℕ → ℕ
 faultyAt s = startOf (firstNot isField (split 45 s)) (split 45 s)
 
-wrong-field : (t : List ℕ) → isField (piece 45 t) ≡ false → faultyAt t ≡ 0
+pub wrong-field : (t : List ℕ) → isField (piece 45 t) ≡ false → faultyAt t ≡ 0
 unfolding firstNot
 wrong-field t e = let r = first-piece 45 t in rw (r .1, e) (start-first (piece 45 t ∷ r .0))
 
-fine-field : (t : List ℕ) → isField (piece 45 t) ≡ true → faultyAt t ≡ suc (length (piece 45 t)) + faultyAt (drop (suc (length (piece 45 t))) t)
+pub fine-field : (t : List ℕ) → isField (piece 45 t) ≡ true → faultyAt t ≡ suc (length (piece 45 t)) + faultyAt (drop (suc (length (piece 45 t))) t)
 unfolding firstNot
 fine-field t e = ⊎-elim last next (le-or-less (length t) (length (piece 45 t)))
   where

@@ -1,3 +1,4 @@
 pub mod Text
 pub mod Label
 pub mod Given
+pub mod Theorems

@@ -1,9 +1,9 @@
 // Labels.
 use crate::tell::tell_laid;
 use crate::tell::tell_sheet;
-use label::reading::read_label;
 use labelling::writing::label_length;
 use labelling::writing::write_label;
+use reading::labels::read_label;
 ghost use mathlib.Core.Path.{_≡_};
 ghost use lib.ListN.{length};
 ghost use Rattle.refusal.specs.Paper.{counted, roomAfter};

@@ -1,5 +1,5 @@
 // The rows of the lines of a block, one behind the other.
-use label::piece::piece_end;
+use fault::piece::piece_end;
 use refusal::Laid;
 use rows::row::row;
 ghost use Prim.Native.Nat.{_+_, _≤_, _<_, _^_};

@@ -1,0 +1,121 @@
+-- A label without a fault of form is read by its numbers: they name a scale, and those behind the first name its sheet. Of one with a fault
+-- the second pass tells which. Assumes nothing.
+use mathlib.Core.Path.{_≡_, refl, sym, ap, _∙_}
+use mathlib.Core.Bool.{true}
+use mathlib.Core.List.{List}
+use Prim.Native.Nat.{ℕ}
+use native.Mathlib.Omega.{arith}
+use borrow.Author.Needs.{needs}
+use lib.ListN.{getD, drop}
+use Rattle.refusal.specs.declared.Refusal.the-variants.{LabelLength}
+use Rattle.refusal.specs.Paper.{answer}
+use Rattle.label.specs.Label.{scaleNamed, wellFormed, numbersIn}
+use Rattle.reading.specs.Given.{numbersOf, scalePaper}
+use Rattle.label.proofs.FormLaws.{empty-form, long-form}
+use Rattle.label.proofs.NamedLaws.{scaleFrom, read-unformed, read-none, read-named}
+use Rattle.reading.proofs.HeldLaws.{unformed, well, fields-named, first-held, others-held}
+use Rattle.reading.proofs.labels.read_label.Statement.{statement}
+use Rattle.reading.proofs.labels.read_label.Tie as tie
+
+abbrev bytes : tie.After-numbers-in → List ℕ
+bytes c = c .before .before .before .before .before .args .bytes .now
+
+-- where there are numbers, the label is well formed, and they are its own
+formed : (c : tie.Else3) → (wellFormed (bytes (c .before .before)) ≡ true) × (numbersOf (bytes (c .before .before)) ≡ numbersIn (bytes (c .before .before)))
+formed c = let d = c .before .before in well (bytes d) (λ e. c .if3 .left (d .numbers-in .ensures .counted ∙ e))
+
+-- what is named is named by the label's numbers
+named : (c : tie.After-scale-named) → scalePaper (c .scale-named .result) ≡ scaleFrom (numbersIn (bytes (c .before .before .before)))
+named c =
+    let d = c .before .before .before in
+    let h = d .numbers-in .ensures in
+    let n = d .numbers-in .result in
+    c .scale-named .ensures ∙ ap (λ (m : ℕ). scaleNamed m n) (first-held h (omega (arith, c .before .if3 .left))) ∙ ap (λ (k : ℕ). scaleNamed (getD (numbersOf (bytes d)) 0 0) k) (h .counted) ∙ ap scaleFrom (formed (c .before) .1)
+
+-- and the arm that is taken has the scale
+scale : (c : tie.After-s) → scaleFrom (numbersIn (bytes (c .before .before .before .before .before))) ≡ answer (c .s .given .0 .0)
+scale c = sym (named (c .before .before)) ∙ ap scalePaper (c .s .given .1)
+
+returns : tie.Need-returns
+returns c = let l = c .before .before .args .bytes .now in sym (read-unformed l (LabelLength 0) (empty-form l (c .if1 .taken)))
+
+returns-2 : tie.Need-returns-2
+returns-2 c = let l = c .before .before .before .args .bytes .now in sym (read-unformed l (LabelLength 16) (long-form l (c .if2 .taken)))
+
+slice-aggregate-numbers-in : tie.Need-slice-aggregate-numbers-in
+slice-aggregate-numbers-in c = search needs
+
+numbers-in-requires : tie.Need-numbers-in-requires
+numbers-in-requires c κs = (c .before .if2 .left, refl)
+
+form-fault-requires : tie.Need-form-fault-requires
+form-fault-requires c κs =
+    let d = c .before .before in
+    let e = d .before .before in
+    (omega (arith, e .before .if1 .left), (e .if2 .left, unformed (bytes d) (sym (d .numbers-in .ensures .counted) ∙ c .if3 .taken)))
+
+returns-3 : tie.Need-returns-3
+returns-3 c = sym (read-unformed (bytes (c .before .before .before)) (c .form-fault .result) (sym (c .form-fault .ensures)))
+
+array-read-first : tie.Need-array-read-first
+array-read-first c = search needs
+
+scale-named-requires : tie.Need-scale-named-requires
+scale-named-requires c κs = search needs
+
+enum-known-why : tie.Need-enum-known-why
+enum-known-why c = search needs
+
+enum-known-s : tie.Need-enum-known-s
+enum-known-s c = search needs
+
+sub-sheet-from : tie.Need-sub-sheet-from
+sub-sheet-from c = search needs
+
+part-sheet-from-start : tie.Need-part-sheet-from-start
+part-sheet-from-start c = search needs
+
+part-sheet-from-end : tie.Need-part-sheet-from-end
+part-sheet-from-end c = search needs
+
+sheet-from-requires : tie.Need-sheet-from-requires
+sheet-from-requires c κs =
+    let s = c .before .before .before in
+    let x = s .before .before .before in
+    let d = x .before .before in
+    let e = others-held (d .numbers-in .ensures) ∙ ap (drop 1) (formed x .1) in
+    (rw e (fields-named (numbersIn (bytes d)) (s .s .given .0 .0) (scale s)), e)
+
+returns-4 : tie.Need-returns-4
+returns-4 c =
+    let w = c .before in
+    let x = w .before .before .before in
+    let b = bytes (x .before .before) in
+    sym (read-none b (formed x .0) (w .why .given .0 .0) (sym (named (w .before .before)) ∙ ap scalePaper (w .why .given .1)))
+
+returns-5 : tie.Need-returns-5
+returns-5 c =
+    let s = c .before .before .before .before in
+    let x = s .before .before .before in
+    c .sheet-from .ensures ∙ sym (read-named (bytes (x .before .before)) (formed x .0) (s .s .given .0 .0) (scale s))
+
+pub read-label-spec : {M : Type 1} → statement M
+read-label-spec =
+    tie.close
+    (tie.spec
+    returns
+    returns-2
+    slice-aggregate-numbers-in
+    numbers-in-requires
+    form-fault-requires
+    returns-3
+    array-read-first
+    scale-named-requires
+    enum-known-why
+    enum-known-s
+    sub-sheet-from
+    part-sheet-from-start
+    part-sheet-from-end
+    sheet-from-requires
+    returns-4
+    returns-5)
