@@ -1,4 +1,5 @@
-/* The library from C: a point's sheet, its label and its corners, a sheet's frame for a viewer, a cover, a catalogue line and a shelf list. */
+/* The library from C: a point's sheet, its label and its corners, a sheet's frame for a viewer, a cover, a catalogue line, what is wrong with
+ * another, and a shelf list. */
 #include <inttypes.h>
 #include <stdio.h>
 #include <stdlib.h>
@@ -94,6 +95,29 @@ static void line(void)
     print_part("caption", source == QUBATHIMI_IN_FALLBACK ? fallback : text, start, end);
 }
 
+/* For the lender: the line, the refusal and its place, and a caret under it. */
+static void wrong(void)
+{
+    const uint8_t text[] = "50-0109-11 Old town";
+    const size_t length = sizeof text - 1;
+    uint64_t place;
+
+    uint32_t status = qubathimi_read_line(text, length, &place);
+    print_part("line", text, 0, length);
+    switch (status) {
+    case QUBATHIMI_LABEL_LENGTH:
+    case QUBATHIMI_STRANGE_BYTE:
+    case QUBATHIMI_FIELD_FORM:
+    case QUBATHIMI_NAMES_NO_SCALE:
+    case QUBATHIMI_FIELD_RANGE:
+        printf("     %*s\n", (int)place + 1, "^");
+        printf("refused %" PRIu32 " at %" PRIu64 "\n", status, place);
+        break;
+    default:
+        answered(status);
+    }
+}
+
 static void list(void)
 {
     const uint32_t sheets[] = {0, 344, QUBATHIMI_LAST_SHEET};
@@ -121,6 +145,7 @@ int main(void)
     viewer();
     cover();
     line();
+    wrong();
     list();
     return 0;
 }

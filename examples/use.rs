@@ -1,5 +1,5 @@
-//! The library from Rust: a point's sheet, its label and its corners, a sheet's frame for a viewer, a cover, a catalogue line and a shelf
-//! list.
+//! The library from Rust: a point's sheet, its label and its corners, a sheet's frame for a viewer, a cover, a catalogue line, what is wrong
+//! with another, and a shelf list.
 use std::fmt::Display;
 
 // As include/qubathimi.h declares them; a slice is handed over as a pointer and a length.
@@ -162,6 +162,17 @@ fn run() -> Result<(), Refused> {
     println!("name {}", text(name));
     // The label by itself is a line without a name.
     println!("caption {}", text(caption(label, b"no name")));
+
+    // For the lender: the line, the refusal and its place, and a caret under it.
+    let line = b"50-0109-11 Old town";
+    println!("line {}", text(line));
+    match read_line(line) {
+        Err(Refused(number @ (4 | 19 | 20 | 21 | 5), place)) => {
+            println!("     {:>1$}", "^", place as usize + 1);
+            println!("refused {number} at {place}");
+        }
+        other => println!("sheet {}", other?),
+    }
 
     let mut bytes = [0; 16];
     let length = write_list(&[0, 344, 7_953_173], &mut bytes)?;

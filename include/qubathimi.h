@@ -7,11 +7,12 @@
  *
  * The convention. Seven functions cannot refuse and have their answer as the result: qubathimi_width, _height, _rows, _columns, _first,
  * _last and _scale_of; and so has qubathimi_same_name, which is true or false. For all others:
- *  - The result is 0 where the function answers, and otherwise the number of the refusal, 1 to 18 (enum qubathimi_refusal). Where several
+ *  - The result is 0 where the function answers, and otherwise the number of the refusal, 1 to 21 (enum qubathimi_refusal). Where several
  *    are due, the first in the order given at the function is the one.
  *  - An answer that is one number goes to *value, and so does the count of what is laid into lent room. *value is written in every
- *    case: of a refusal it is what the refusal carries, the room needed with 10 and otherwise 0. A sheet in *value always fits the
- *    uint32_t that functions take.
+ *    case: of a refusal it is what the refusal carries, the room needed with 10, a place in the label with 4, 5, 19, 20 and 21, and
+ *    otherwise 0. A place counts bytes from 0, so there a 0 is the first byte. A sheet in *value always fits the uint32_t that functions
+ *    take.
  *  - An answer of several numbers goes to a pointer for each. A refusal leaves what they point to as it was.
  *  - Room is lent as a pointer and the number of places (not bytes) there. A refusal writes nothing into it, save the sheets that
  *    qubathimi_read_list has placed; places beyond an answer keep their values.
@@ -46,13 +47,13 @@ extern "C" {
 #define QUBATHIMI_IN_LINE 0
 #define QUBATHIMI_IN_FALLBACK 1
 
-/* Document 01, "Numbers of refusal", and document 02 for 18; docs/REFUSALS.md says what to look at. */
+/* Document 01, "Numbers of refusal", and document 02 for 4, 5 and those from 18 on; docs/REFUSALS.md says what to look at. */
 enum qubathimi_refusal {
     QUBATHIMI_POINT_OUTSIDE = 1,  /* point outside the area */
     QUBATHIMI_NO_SCALE = 2,       /* scale not 1 to 9 */
     QUBATHIMI_NO_SHEET = 3,       /* sheet number above 7 953 173 */
-    QUBATHIMI_LABEL_FORM = 4,     /* label not well formed */
-    QUBATHIMI_FIELD_RANGE = 5,    /* a label field out of range */
+    QUBATHIMI_LABEL_LENGTH = 4,   /* label empty, at 0, or over 16 bytes, at 16; carries that place */
+    QUBATHIMI_FIELD_RANGE = 5,    /* a label field out of range; carries where the first such field begins */
     QUBATHIMI_NO_SUCH = 6,        /* no such parent or child, step or place off the grid, offset across scales */
     QUBATHIMI_WINDOW_ORDER = 7,   /* window with east not above west or north not above south */
     QUBATHIMI_WINDOW_OUTSIDE = 8, /* window reaching outside the area */
@@ -65,7 +66,10 @@ enum qubathimi_refusal {
     QUBATHIMI_NOT_RISING = 15,    /* sheets to be written not strictly rising */
     QUBATHIMI_NAME_FORM = 16,     /* name badly formed */
     QUBATHIMI_NAME_SCALE = 17,    /* name at scale 7, 8 or 9 */
-    QUBATHIMI_NO_NUMBER = 18      /* a value in metres that is infinite or no number */
+    QUBATHIMI_NO_NUMBER = 18,     /* a value in metres that is infinite or no number */
+    QUBATHIMI_STRANGE_BYTE = 19,  /* a byte of a label that is neither digit nor hyphen; carries the place of the first */
+    QUBATHIMI_FIELD_FORM = 20,    /* an empty label field, or one with a leading zero; carries where the first such field begins */
+    QUBATHIMI_NAMES_NO_SCALE = 21 /* a label's first number or its count of fields unknown; carries 0 */
 };
 
 /* ---- Scales. Of a number that is no scale, not 1 to 9, each of these is 0. ---- */
@@ -145,7 +149,9 @@ uint32_t qubathimi_cover(uint32_t scale, int64_t west, int64_t east, int64_t sou
 
 /* ---- Labels ---- */
 
-/* The sheet that a label names. Refusals: 4, of the empty label too; 5. */
+/* The sheet that a label names. Refusals, each with the place of the first offending byte in *value: 4; 19; 20; 21; 5. The order is by
+ * kind and not by place: a strange byte is told before an empty field in front of it. An empty field begins at the hyphen or at the label's
+ * end that closes it, so the place can be `length`, but never beyond it. */
 uint32_t qubathimi_read_label(const uint8_t *label, size_t length, uint64_t *value);
 
 /* How many bytes the label of a sheet has, 8 to 16. Refusal: 3. */
@@ -156,7 +162,8 @@ uint32_t qubathimi_write_label(uint32_t sheet, uint8_t *room, size_t length, uin
 
 /* ---- Catalogue lines: a label, or a label, a space and a name; without the line's end ---- */
 
-/* The sheet of a line, and whether and why it is refused: the next two do not say that. Refusals: 4; 5; 17; 16. */
+/* The sheet of a line, and whether and why it is refused: the next two do not say that. Refusals: 4; 19; 20; 21; 5, of the label and with its
+ * place, which is the place in the line too; 17; 16, with 0. */
 uint32_t qubathimi_read_line(const uint8_t *line, size_t length, uint64_t *value);
 
 /* Where the parts of a line lie: the label from 0 up to *label, the name from *start up to *end. A name that is absent is empty and at

@@ -1,15 +1,14 @@
 -- The first faulty field in bytes: a field begins at its place, and is empty there or begins with a zero and goes on. What stands before the
 -- first hyphen is the first field, so places are judged field by field. Assumes nothing.
 use mathlib.Core.Path.{_≡_, refl, sym, ap, _∙_}
-use mathlib.Core.Bool.{Bool, true, false, not, cond, _&&_, _||_, and-false}
+use mathlib.Core.Bool.{Bool, true, false, not, cond, _&&_, and-false}
 use mathlib.Core.List.{List, [], _∷_}
 use mathlib.Core.Logic.{⊎-elim}
 use Prim.Native.Nat.{ℕ, zero, suc, _+_, _-_, _≤_, _<_}
-use native.Mathlib.Numerals.{add-one}
 use native.Mathlib.Omega.{arith}
 use borrow.Author.Tests.{eq-eqb, ne-eqb, eqb-true, eqb-false}
 use lib.Dec.{eqb}
-use lib.ListN.{length, getD, take, drop, length-drop, List·getD-eq-default}
+use lib.ListN.{length, getD, drop, length-drop, List·getD-eq-default}
 use lib.Seq.{getD-take, getD-drop}
 use Rattle.division.proofs.TestLaws.{both, le-or-less}
 use Rattle.label.specs.Text.{every, split}
@@ -110,7 +109,7 @@ module _ (t : List ℕ) where
 
 module _ (t : List ℕ) (k : ℕ) where
   -- a place is the start, within the first field, or behind its hyphen
-  pub by-field : {P : Type 0} → (k ≡ 0 → P) → (0 < k → k ≤ length (piece 45 t) → P) → ((j : ℕ) → k ≡ suc (length (piece 45 t)) + j → P) → P
+  by-field : {P : Type 0} → (k ≡ 0 → P) → (0 < k → k ≤ length (piece 45 t) → P) → ((j : ℕ) → k ≡ suc (length (piece 45 t)) + j → P) → P
   by-field a b c =
       ⊎-elim (λ h. ⊎-elim (λ l. b (omega arith) l) (λ l. c (k - suc (length (piece 45 t))) (omega arith)) (le-or-less k (length (piece 45 t))))
       (λ h. a (omega arith)) (le-or-less 1 k)

@@ -1,16 +1,16 @@
 -- The form with what is wrong with it: nothing exactly if the label is well formed, and otherwise the first of 4, 19 and 20 that holds, by
 -- kind and not by place. Assumes nothing.
-use mathlib.Core.Path.{_≡_, refl, sym, ap, _∙_}
-use mathlib.Core.Bool.{Bool, true, false, _&&_}
+use mathlib.Core.Path.{_≡_}
+use mathlib.Core.Bool.{true, false, _&&_}
 use mathlib.Core.List.{List}
 use Prim.Native.Nat.{ℕ, _≤_, _<_}
 use native.Mathlib.Omega.{arith}
-use borrow.Author.Tests.{leb-true, le-leb, lt-leb}
+use borrow.Author.Tests.{le-leb, lt-leb}
 use lib.ListN.{length}
 use Rattle.refusal.specs.Paper.{answer, refused}
 use Rattle.refusal.proofs.PaperLaws.{passed-at, passed-test-at}
 use Rattle.division.specs.Words.{_≤?_, between}
-use Rattle.division.proofs.TestLaws.{both, between-in, in-between}
+use Rattle.division.proofs.TestLaws.{both}
 use Rattle.label.specs.Text.{every, firstNot, split}
 use Rattle.label.specs.Label.{isLabelByte, isField, wellFormed, startOf, formed}
 

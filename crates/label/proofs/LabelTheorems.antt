@@ -15,7 +15,7 @@ use Rattle.division.specs.declared.Place.{Place}
 use Rattle.division.specs.Words.{between}
 use Rattle.division.specs.Table.{Made, ofArea, ofScale, rowsOf, columnsOf, made}
 use Rattle.division.specs.Sheet.{isSheet, scaleOf, placeOf, sheetOf, parentPlace}
-use Rattle.division.specs.Given.{IsScale, OnGrid}
+use Rattle.division.specs.Given.{OnGrid}
 use Rattle.division.specs.Theorems.{SameGround}
 use Rattle.division.proofs.TestLaws.{both, between-in}
 use Rattle.division.proofs.MadeLaws.{Sound, On, number-few, on-parent}

@@ -1,13 +1,12 @@
--- The scale that a first number and a count of fields name has them, and a label is read by its numbers alone. Assumes nothing.
+-- The scale that a first number and a count of fields name has them. What a label gets is decided by its form, and then by its scale. Assumes
+-- nothing.
 use mathlib.Core.Path.{_≡_, refl, sym, ap, _∙_}
-use mathlib.Core.Bool.{Bool, true, false, cond, _&&_}
-use mathlib.Core.List.{List, [], _∷_, map, List·Memᴰ, List·Memᴰ·head}
-use Prim.Native.Nat.{ℕ, zero, suc, _+_, _-_, _<_}
-use native.Mathlib.Numerals.{sub-one}
+use mathlib.Core.Bool.{Bool, true, _&&_}
+use mathlib.Core.List.{List, [], _∷_, List·Memᴰ, List·Memᴰ·head}
+use Prim.Native.Nat.{ℕ, _+_}
 use native.Mathlib.Omega.{arith}
 use borrow.Author.Tests.{eqb-true}
-use lib.ListN.{length, getD, take, drop, length-drop}
-use lib.Seq.{getD-take}
+use lib.ListN.{length, getD}
 use Rattle.refusal.specs.declared.Refusal.{Refusal}
 use Rattle.refusal.specs.Paper.{Paper, answer, _>>=_}
 use Rattle.refusal.specs.Numbers.{onPaper}
@@ -18,10 +17,8 @@ use Rattle.division.specs.Given.{IsScale}
 use Rattle.division.proofs.TestLaws.{both}
 use Rattle.division.proofs.TableLaws.{Each, each, scale}
 use Rattle.division.proofs.MemberLaws.{from-has, keep-has}
-use Rattle.label.specs.Text.{value}
 use Rattle.label.specs.Label.{markOf, countOf, scaleWith, scaleNamed, wellFormed, formed, numbersIn, sheetNamed, readLabel}
 use Rattle.label.specs.Theorems.{Named}
-use Rattle.label.proofs.SplitLaws.{some-pieces}
 use Rattle.label.proofs.FormLaws.{well-formed}
 
 -- ---- the scale

@@ -18,15 +18,6 @@ use Rattle.label.proofs.PieceLaws.{piece, piece-none, piece-cons, piece
 -- ---- the first that fails
 
 module _ {A : Type 0} (test : A → Bool) where
-  pub first-within : (xs : List A) → firstNot test xs ≤ length xs
-  unfolding firstNot
-  first-within [] = omega arith
-  first-within (x ∷ xs) = by (test x) (first-within xs)
-    where
-      by : (b : Bool) → firstNot test xs ≤ length xs → cond b (1 + firstNot test xs) 0 ≤ suc (length xs)
-      by true h = omega arith
-      by false h = omega arith
-
   pub first-none : (xs : List A) → every test xs ≡ true → firstNot test xs ≡ length xs
   unfolding firstNot every
   first-none [] e = refl

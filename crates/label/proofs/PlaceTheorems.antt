@@ -1,7 +1,7 @@
 -- What is refused, and where, is what document 02, b) says of the label's bytes and fields: each kind of fault is sought in the whole label
 -- before the next kind, and a place is the first at which there is one. Assumes nothing.
 use mathlib.Core.Path.{_≡_, refl, sym, ap, ap₂, _∙_}
-use mathlib.Core.Bool.{Bool, true, false, not, cond, _&&_, and-false}
+use mathlib.Core.Bool.{Bool, true, false, not, _&&_, and-false}
 use mathlib.Core.List.{List, [], _∷_}
 use mathlib.Core.Logic.{_↔_, ⊎-elim}
 use Prim.Native.Nat.{ℕ, zero, suc, _+_, _≤_, _<_}
@@ -19,7 +19,7 @@ use Rattle.division.specs.Sheet.{sheetOf}
 use Rattle.division.proofs.TestLaws.{both, in-between, between-in, le-or-less}
 use Rattle.division.proofs.TableLaws.{is-scale}
 use Rattle.label.specs.Text.{every, firstNot, split, value}
-use Rattle.label.specs.Label.{ranges, inRange, firstOut, placeFrom, scaleWith, scaleNamed, isLabelByte, isField, wellFormed, startOf, formed, numbersIn, sheetNamed, readLabel}
+use Rattle.label.specs.Label.{ranges, inRange, firstOut, placeFrom, scaleWith, isLabelByte, isField, wellFormed, startOf, formed, numbersIn, sheetNamed, readLabel}
 use Rattle.label.specs.Theorems.{First, failsAt, isStrange, begins, isFaulty, NamedBy, isOut, Wrong, empty, long, strange, faulty, unknown, out, readBefore, asBefore}
 use Rattle.label.proofs.PieceLaws.{piece}
 use Rattle.label.proofs.PlaceLaws.{last-piece, next-piece, start-first, start-next, faultyAt}

@@ -28,7 +28,7 @@ unfoldable pub countOf : Made → ℕ
 countOf (ofArea r c) = 2
 countOf (ofScale s m k) = 1 + countOf m
 
--- of each whether it is in range
+-- of each of them, whether it is in range
 unfoldable pub ranges : Made → List ℕ → List Bool
 ranges (ofArea r c) fields = between 101 (100 + r) (getD fields 0 0) ∷ between 1 c (getD fields 1 0) ∷ []
 ranges (ofScale s m k) fields = between 1 (k * k) (getD fields 0 0) ∷ ranges m (drop 1 fields)

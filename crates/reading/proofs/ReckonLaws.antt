@@ -6,7 +6,7 @@ use Prim.Native.Nat.{ℕ, _+_, _-_, _*_, _≤_, _<_}
 use native.Mathlib.Nat.{add-zero, mul-add, mul-comm, mul-assoc, mul-le-mul-left, le-trans}
 use native.Mathlib.Numerals.{add-one}
 use native.Mathlib.Omega.{arith}
-use lib.ListN.{length, getD, drop, length-drop, length-map}
+use lib.ListN.{length, getD, drop, length-drop}
 use lib.Seq.{drop-cons, getD-drop}
 use mir.Val.{boolByte}
 use Rattle.refusal.specs.Paper.{Paper, answer, refused, refuse_at_unless_, _>>_}
@@ -21,7 +21,7 @@ use Rattle.division.proofs.TableLaws.{rules}
 use Rattle.division.proofs.FamilyLaws.{top, deep, above, parted, sheets-by, each-few, square-few}
 use Rattle.reading.specs.declared.labels.Reckoned.{Reckoned}
 use Rattle.reading.specs.declared.labels.Reckoned.the-variants.{At, Out}
-use Rattle.label.specs.Text.{every, firstNot, split, value}
+use Rattle.label.specs.Text.{every, firstNot, split}
 use Rattle.label.specs.Label.{countOf, ranges, inRange, firstOut, placeFrom, startOf, numbersIn, sheetNamed}
 use Rattle.reading.specs.Given.{Fields, reckon, reckonArea, reckonBelow}
 use Rattle.label.proofs.FieldLaws.{count-ranges, on-from, index-part}

@@ -10,7 +10,7 @@ pub enum Refusal {
     PointOutside,
     NoScale,
     NoSheet,
-    // of a label too long or empty, and of a field: the place of the first offending byte in the label
+    // the place of the first offending byte in the label, here and below
     LabelLength(usize),
     FieldRange(usize),
     NoSuch,
@@ -27,9 +27,9 @@ pub enum Refusal {
     NameForm,
     NameScale,
     NoNumber,
-    // places in a label again; a label that names no scale is wrong from its first byte on
     StrangeByte(usize),
     FieldForm(usize),
+    // a label that names no scale is wrong from its first byte on: its place is always 0
     NamesNoScale,
 }
 
