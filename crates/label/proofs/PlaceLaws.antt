@@ -15,6 +15,16 @@ use Rattle.label.specs.Label.{isField, startOf}
 use Rattle.label.proofs.SplitLaws.{some-pieces}
 use Rattle.label.proofs.PieceLaws.{piece, piece-none, piece-cons, piece-within}
 
+-- ---- a test that cannot hold, or cannot fail
+
+pub cannot : (b : Bool) → (b ≡ true → ⊥) → b ≡ false
+cannot true n = absurd (n refl)
+cannot false n = refl
+
+pub must : (b : Bool) → (b ≡ false → ⊥) → b ≡ true
+must true n = refl
+must false n = absurd (n refl)
+
 -- ---- the first that fails
 
 module _ {A : Type 0} (test : A → Bool) where

@@ -22,7 +22,7 @@ use Rattle.label.specs.Text.{every, firstNot, split, value}
 use Rattle.label.specs.Label.{ranges, inRange, firstOut, placeFrom, scaleWith, isLabelByte, isField, wellFormed, startOf, formed, numbersIn, sheetNamed, readLabel}
 use Rattle.label.specs.Theorems.{First, failsAt, isStrange, begins, isFaulty, NamedBy, isOut, Wrong, empty, long, strange, faulty, unknown, out, readBefore, asBefore}
 use Rattle.label.proofs.PieceLaws.{piece}
-use Rattle.label.proofs.PlaceLaws.{last-piece, next-piece, start-first, start-next, faultyAt}
+use Rattle.label.proofs.PlaceLaws.{cannot, last-piece, next-piece, start-first, start-next, faultyAt}
 use Rattle.label.proofs.FormLaws.{empty-form, long-form, strange-form, field-form}
 use Rattle.label.proofs.NamedLaws.{marked, named, scaleFrom, read-unformed, read-none, read-named}
 use Rattle.label.proofs.FieldLaws.{count-ranges}
@@ -66,11 +66,7 @@ module _ {A : Type 0} (test : A → Bool) (none : A) where
 
   -- so a list in which one fails does not pass
   some-fails : (xs : List A) (k : ℕ) → failsAt test none xs k ≡ true → every test xs ≡ false
-  some-fails xs k e = by (every test xs) refl
-    where
-      by : (b : Bool) → every test xs ≡ b → b ≡ false
-      by true f = absurd (no e (none-fails xs f k))
-      by false f = refl
+  some-fails xs k e = cannot (every test xs) (λ f. no e (none-fails xs f k))
 
 -- ---- where a field stands
 
@@ -109,11 +105,7 @@ module _ (label : List ℕ) where
   named-scale = scaleWith (getD numbers 0 0) (length numbers)
 
   field-fails : (k : ℕ) → isFaulty label k ≡ true → every isField (split 45 label) ≡ false
-  field-fails k e = by (every isField (split 45 label)) refl
-    where
-      by : (b : Bool) → every isField (split 45 label) ≡ b → b ≡ false
-      by true f = absurd (no e (none-faulty label f k))
-      by false f = refl
+  field-fails k e = cannot (every isField (split 45 label)) (λ f. no e (none-faulty label f k))
 
   no-scale : ((s : ℕ) → NamedBy label s → ⊥) → scaleFrom numbers ≡ refused 21 0
   no-scale n = by (isScale named-scale) refl

@@ -1,6 +1,6 @@
 -- A strange byte comes before the label's end exactly if there is one; and where there is none, a field is faulty. Assumes nothing.
-use mathlib.Core.Path.{_≡_, refl, sym, ap, _∙_}
-use mathlib.Core.Bool.{Bool, true, false}
+use mathlib.Core.Path.{_≡_, sym, ap, _∙_}
+use mathlib.Core.Bool.{true, false}
 use mathlib.Core.List.{List}
 use Prim.Native.Nat.{ℕ, _≤_, _<_}
 use native.Mathlib.Omega.{arith}
@@ -9,24 +9,16 @@ use lib.ListN.{length}
 use Rattle.refusal.specs.Paper.{refused}
 use Rattle.label.specs.Text.{every, firstNot}
 use Rattle.label.specs.Label.{isLabelByte}
-use Rattle.label.proofs.PlaceLaws.{first-none, first-some}
+use Rattle.label.proofs.PlaceLaws.{cannot, must, first-none, first-some}
 use Rattle.label.proofs.FormLaws.{strange-form, field-form, field-wrong}
 use Rattle.reading.proofs.labels.form_fault.Statement.{statement}
 use Rattle.reading.proofs.labels.form_fault.Tie as tie
 
 some-strange : (l : List ℕ) → firstNot isLabelByte l < length l → every isLabelByte l ≡ false
-some-strange l h = by (every isLabelByte l) refl
-  where
-    by : (b : Bool) → every isLabelByte l ≡ b → b ≡ false
-    by true e = absurd (omega (arith, first-none isLabelByte l e))
-    by false e = refl
+some-strange l h = cannot (every isLabelByte l) (λ e. omega (arith, first-none isLabelByte l e))
 
 none-strange : (l : List ℕ) → length l ≤ firstNot isLabelByte l → every isLabelByte l ≡ true
-none-strange l h = by (every isLabelByte l) refl
-  where
-    by : (b : Bool) → every isLabelByte l ≡ b → b ≡ true
-    by true e = refl
-    by false e = absurd (omega (arith, first-some isLabelByte l e))
+none-strange l h = must (every isLabelByte l) (λ e. omega (arith, first-some isLabelByte l e))
 
 strange-byte-requires : tie.Need-strange-byte-requires
 strange-byte-requires c κs = search needs
