@@ -14,26 +14,7 @@ use Rattle.division.proofs.TestLaws.{both}
 use Rattle.label.specs.Text.{every, firstNot, split}
 use Rattle.label.specs.Label.{isLabelByte, isField, wellFormed, startOf, formed}
 
--- ---- nothing is wrong
-
-pub well-formed : (l : List ℕ) → wellFormed l ≡ true → formed l ≡ answer tt
-unfolding wellFormed formed
-well-formed l e =
-    let a = both (between 1 16 (length l) && every isLabelByte l) (every isField (split 45 l)) e in
-    let b = both (between 1 16 (length l)) (every isLabelByte l) (a .0) in
-    let c = both (1 ≤? length l) (length l ≤? 16) (b .0) in
-    rw (c .0, c .1, b .1, a .1)
-
-pub formed-well : (l : List ℕ) → formed l ≡ answer tt → wellFormed l ≡ true
-unfolding wellFormed formed
-formed-well l e =
-    let a = passed-at 4 0 (1 ≤? length l) _ e in
-    let b = passed-at 4 16 (length l ≤? 16) _ (a .1) in
-    let c = passed-at 19 (firstNot isLabelByte l) (every isLabelByte l) _ (b .1) in
-    let d = passed-test-at 20 (startOf (firstNot isField (split 45 l)) (split 45 l)) (every isField (split 45 l)) (c .1) in
-    rw (a .0, b .0, c .0, d)
-
--- ---- what is
+-- ---- something is wrong
 
 pub empty-form : (l : List ℕ) → length l ≡ 0 → formed l ≡ refused 4 0
 unfolding formed
@@ -56,3 +37,22 @@ module _ (l : List ℕ) (some : 1 ≤ length l) (few : length l ≤ 16) where
   pub field-wrong : wellFormed l ≡ false → every isLabelByte l ≡ true → every isField (split 45 l) ≡ false
   unfolding wellFormed
   field-wrong n e = rw (le-leb 1 (length l) some, le-leb (length l) 16 few, e) at n
+
+-- ---- nothing is wrong
+
+pub well-formed : (l : List ℕ) → wellFormed l ≡ true → formed l ≡ answer tt
+unfolding wellFormed formed
+well-formed l e =
+    let a = both (between 1 16 (length l) && every isLabelByte l) (every isField (split 45 l)) e in
+    let b = both (between 1 16 (length l)) (every isLabelByte l) (a .0) in
+    let c = both (1 ≤? length l) (length l ≤? 16) (b .0) in
+    rw (c .0, c .1, b .1, a .1)
+
+pub formed-well : (l : List ℕ) → formed l ≡ answer tt → wellFormed l ≡ true
+unfolding wellFormed formed
+formed-well l e =
+    let a = passed-at 4 0 (1 ≤? length l) _ e in
+    let b = passed-at 4 16 (length l ≤? 16) _ (a .1) in
+    let c = passed-at 19 (firstNot isLabelByte l) (every isLabelByte l) _ (b .1) in
+    let d = passed-test-at 20 (startOf (firstNot isField (split 45 l)) (split 45 l)) (every isField (split 45 l)) (c .1) in
+    rw (a .0, b .0, c .0, d)

@@ -1,10 +1,10 @@
 -- What is refused, and where, is what document 02, b) says of the label's bytes and fields: each kind of fault is sought in the whole label
 -- before the next kind, and a place is the first at which there is one. Assumes nothing.
 use mathlib.Core.Path.{_≡_, refl, sym, ap, ap₂, _∙_}
-use mathlib.Core.Bool.{Bool, true, false, not, _&&_, and-false}
+use mathlib.Core.Bool.{Bool, true, false, not, _&&_, and-true, and-false}
 use mathlib.Core.List.{List, [], _∷_}
 use mathlib.Core.Logic.{_↔_, ⊎-elim}
-use Prim.Native.Nat.{ℕ, zero, suc, _+_, _≤_, _<_}
+use Prim.Native.Nat.{ℕ, zero, suc, _+_, _*_, _≤_, _<_}
 use native.Mathlib.Omega.{arith}
 use borrow.Author.Tests.{lt-ltb, le-ltb, ltb-true}
 use lib.Dec.{ltb}
@@ -14,13 +14,13 @@ use Rattle.refusal.specs.declared.Refusal.the-variants.{LabelLength, StrangeByt
 use Rattle.refusal.specs.Paper.{Paper, answer, refused, refuse_at_unless_, refuse_unless_, _>>_, _>>=_}
 use Rattle.refusal.proofs.PaperLaws.{differs, same-number, same-value}
 use Rattle.division.specs.Words.{_≤?_, between}
-use Rattle.division.specs.Table.{isScale, made}
+use Rattle.division.specs.Table.{Made, ofArea, ofScale, isScale, made}
 use Rattle.division.specs.Sheet.{sheetOf}
 use Rattle.division.proofs.TestLaws.{both, in-between, between-in, le-or-less}
 use Rattle.division.proofs.TableLaws.{is-scale}
 use Rattle.label.specs.Text.{every, firstNot, split, value}
 use Rattle.label.specs.Label.{ranges, inRange, firstOut, placeFrom, scaleWith, isLabelByte, isField, wellFormed, startOf, formed, numbersIn, sheetNamed, readLabel}
-use Rattle.label.specs.Theorems.{First, failsAt, isStrange, begins, isFaulty, NamedBy, isOut, Wrong, empty, long, strange, faulty, unknown, out, readBefore, asBefore}
+use Rattle.label.specs.Theorems.{First, failsAt, isStrange, begins, isFaulty, NamedBy, isOut, Wrong, empty, long, strange, faulty, unknown, out, inRangeBefore, readBefore, asBefore}
 use Rattle.label.proofs.PieceLaws.{piece}
 use Rattle.label.proofs.PlaceLaws.{cannot, last-piece, next-piece, start-first, start-next, faultyAt}
 use Rattle.label.proofs.FormLaws.{empty-form, long-form, strange-form, field-form}
@@ -215,7 +215,12 @@ module _ (label : List ℕ) (s : between 1 16 (length label) ≡ true) (k : ℕ)
 pub unknown-hides : (label : List ℕ) → wellFormed label ≡ true → ((s : ℕ) → NamedBy label s → ⊥) → readLabel label ≡ refused 21 0
 unknown-hides label f n = wrong-refused label (unknown f n)
 
--- "Which labels are accepted does not change": 4 is told apart, and nothing else
+-- "Which labels are accepted does not change": 4 is told apart, and nothing else. The ranges one by one are all in range together
+pub range-before : (m : Made) (fields : List ℕ) → inRange m fields ≡ inRangeBefore m fields
+unfolding inRange inRangeBefore ranges every
+range-before (ofArea r c) fields = ap (λ (b : Bool). between 101 (100 + r) (getD fields 0 0) && b) (and-true (between 1 c (getD fields 1 0)))
+range-before (ofScale s m k) fields = ap (λ (b : Bool). between 1 (k * k) (getD fields 0 0) && b) (range-before m (drop 1 fields))
+
 pub as-before : (label : List ℕ) → asBefore (readLabel label) ≡ readBefore label
 unfolding readLabel readBefore formed sheetNamed wellFormed
 as-before label = by (1 ≤? length label) (length label ≤? 16) (every isLabelByte label) (every isField fields) (isScale scale)
@@ -236,10 +241,12 @@ as-before label = by (1 ≤? length label) (length label ≤? 16) (every isLabel
     by : (a b c d f : Bool) →
         asBefore (((refuse 4 at 0 unless a) >> ((refuse 4 at 16 unless b) >> ((refuse 19 at firstNot isLabelByte label unless c) >> (refuse 20 at startOf (firstNot isField fields) fields unless d)))) >>
         (((refuse 21 at 0 unless f) >> answer scale) >>= λ s. sheetNamed s label))
-        ≡ ((refuse 4 unless (((a && b) && c) && d)) >> ((refuse 4 unless f) >> ((refuse 5 unless inRange (made scale) (drop 1 (numbers label))) >> sheet)))
+        ≡ ((refuse 4 unless (((a && b) && c) && d)) >> ((refuse 4 unless f) >> ((refuse 5 unless inRangeBefore (made scale) (drop 1 (numbers label))) >> sheet)))
     by false b c d f = refl
     by true false c d f = refl
     by true true false d f = refl
     by true true true false f = refl
     by true true true true false = refl
-    by true true true true true = ranged (startOf (1 + firstOut (made scale) (drop 1 (numbers label))) fields) (inRange (made scale) (drop 1 (numbers label)))
+    by true true true true true =
+        let behind = drop 1 (numbers label) in
+        ranged (startOf (1 + firstOut (made scale) behind) fields) (inRange (made scale) behind) ∙ ap (λ (g : Bool). (refuse 5 unless g) >> sheet) (range-before (made scale) behind)

@@ -1,6 +1,6 @@
 -- What is wrong with a label, in the words of document 02, b), over its bytes and fields and without any reading: for the theorems on
 -- refusals and their places.
-use Prim.Native.Nat.{ℕ, _+_, _-_, _<_}
+use Prim.Native.Nat.{ℕ, _+_, _-_, _*_, _<_}
 use Prim.Native.Char.{code}
 use mathlib.Core.Path.{_≡_}
 use mathlib.Core.Bool.{Bool, true, false, not, cond, _&&_, _||_}
@@ -8,11 +8,11 @@ use mathlib.Core.List.{List}
 use lib.ListN.{length, getD, drop}
 use Rattle.refusal.specs.Paper.{Paper, answer, refused, refuse_unless_, _>>_}
 use Rattle.division.specs.Words.{_<?_, _=?_, between}
-use Rattle.division.specs.Table.{isScale, made}
+use Rattle.division.specs.Table.{Made, ofArea, ofScale, isScale, made}
 use Rattle.division.specs.Sheet.{sheetOf}
 use Rattle.division.specs.Given.{IsScale}
 use Rattle.label.specs.Text.{every, split}
-use Rattle.label.specs.Label.{markOf, countOf, ranges, inRange, placeFrom, scaleWith, isLabelByte, wellFormed, startOf, numbersIn}
+use Rattle.label.specs.Label.{markOf, countOf, ranges, placeFrom, scaleWith, isLabelByte, wellFormed, startOf, numbersIn}
 
 -- "the first" place with a property
 pub record First (test : ℕ → Bool) (place : ℕ) : Type 0 where
@@ -65,15 +65,19 @@ pub data Wrong (label : List ℕ) : ℕ → ℕ → Type 0 where
   -- "for 5 the start of the first field out of range"
   out : {s k : ℕ} → wellFormed label ≡ true → NamedBy label s → First (isOut s label) k → Wrong label 5 (startOf (1 + k) (split (code "-") label))
 
--- "Which labels are accepted does not change": document 01's reading, with 4 for every fault of form and no place, and what is read now
--- told in its numbers
+-- "Which labels are accepted does not change": document 01's reading, with 4 for every fault of form, one test for all ranges and no place,
+-- and what is read now told in its numbers
+unfoldable pub inRangeBefore : Made → List ℕ → Bool
+inRangeBefore (ofArea r c) fields = between 101 (100 + r) (getD fields 0 0) && between 1 c (getD fields 1 0)
+inRangeBefore (ofScale s m k) fields = between 1 (k * k) (getD fields 0 0) && inRangeBefore m (drop 1 fields)
+
 unfoldable pub readBefore : List ℕ → Paper ℕ
 readBefore bytes = do
   let numbers = numbersIn bytes
   let s = scaleWith (getD numbers 0 0) (length numbers)
   refuse 4 unless wellFormed bytes
   refuse 4 unless isScale s
-  refuse 5 unless inRange (made s) (drop 1 numbers)
+  refuse 5 unless inRangeBefore (made s) (drop 1 numbers)
   answer (sheetOf s (placeFrom (made s) (drop 1 numbers)))
 
 abbrev pub asBefore : Paper ℕ → Paper ℕ

@@ -191,19 +191,21 @@ fn index_below(i: usize, index: u32, each: u32, above: Reckoned) -> Reckoned
     }
 }
 
-// Why a label is not well formed: a second pass, over a label that the first has refused. Both places are sought before the refusals, which
-// keep the paper's order: 19, then 20.
+// Why a label of at most 16 bytes is not well formed: a second pass, over a label that the first has refused. Each kind of fault is sought in
+// the whole label before the next: 4, 19, 20.
 fn form_fault(bytes: &[u8]) -> Refusal
-    requires { ⌜ 1 ≤ length (now bytes) ⌝ }
     requires { ⌜ length (now bytes) ≤ 16 ⌝ }
     requires { ⌜ wellFormed (now bytes) ≡ false ⌝ }
     ensures { λ r. ⌜ onPaper r ≡ formed (now (bytes .entry)) ⌝ }
 {
+    if bytes.len() == 0 {
+        return Refusal::LabelLength(0);
+    }
     let strange = strange_byte(bytes);
-    let faulty = faulty_field(bytes);
     if strange < bytes.len() {
         return Refusal::StrangeByte(strange);
     }
+    let faulty = faulty_field(bytes);
     Refusal::FieldForm(faulty)
 }
 
@@ -211,9 +213,6 @@ fn form_fault(bytes: &[u8]) -> Refusal
 pub fn read_label(bytes: &[u8]) -> Found
     ensures { λ r. ⌜ sheetPaper r ≡ readLabel (now (bytes .entry)) ⌝ }
 {
-    if bytes.len() == 0 {
-        return Found::Refused(Refusal::LabelLength(0));
-    }
     if 16 < bytes.len() {
         return Found::Refused(Refusal::LabelLength(16));
     }

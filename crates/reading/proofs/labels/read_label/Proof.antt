@@ -11,18 +11,18 @@ use Rattle.refusal.specs.declared.Refusal.the-variants.{LabelLength}
 use Rattle.refusal.specs.Paper.{answer}
 use Rattle.label.specs.Label.{scaleNamed, wellFormed, numbersIn}
 use Rattle.reading.specs.Given.{numbersOf, scalePaper}
-use Rattle.label.proofs.FormLaws.{empty-form, long-form}
+use Rattle.label.proofs.FormLaws.{long-form}
 use Rattle.label.proofs.NamedLaws.{scaleFrom, read-unformed, read-none, read-named}
 use Rattle.reading.proofs.HeldLaws.{unformed, well, fields-named, first-held, others-held}
 use Rattle.reading.proofs.labels.read_label.Statement.{statement}
 use Rattle.reading.proofs.labels.read_label.Tie as tie
 
 abbrev bytes : tie.After-numbers-in → List ℕ
-bytes c = c .before .before .before .before .before .args .bytes .now
+bytes c = c .before .before .before .before .args .bytes .now
 
 -- where there are numbers, the label is well formed, and they are its own
-formed : (c : tie.Else3) → (wellFormed (bytes (c .before .before)) ≡ true) × (numbersOf (bytes (c .before .before)) ≡ numbersIn (bytes (c .before .before)))
-formed c = let d = c .before .before in well (bytes d) (λ e. c .if3 .left (d .numbers-in .ensures .counted ∙ e))
+formed : (c : tie.Else2) → (wellFormed (bytes (c .before .before)) ≡ true) × (numbersOf (bytes (c .before .before)) ≡ numbersIn (bytes (c .before .before)))
+formed c = let d = c .before .before in well (bytes d) (λ e. c .if2 .left (d .numbers-in .ensures .counted ∙ e))
 
 -- what is named is named by the label's numbers
 named : (c : tie.After-scale-named) → scalePaper (c .scale-named .result) ≡ scaleFrom (numbersIn (bytes (c .before .before .before)))
@@ -30,32 +30,26 @@ named c =
     let d = c .before .before .before in
     let h = d .numbers-in .ensures in
     let n = d .numbers-in .result in
-    c .scale-named .ensures ∙ ap (λ (m : ℕ). scaleNamed m n) (first-held h (omega (arith, c .before .if3 .left))) ∙ ap (λ (k : ℕ). scaleNamed (getD (numbersOf (bytes d)) 0 0) k) (h .counted) ∙ ap scaleFrom (formed (c .before) .1)
+    c .scale-named .ensures ∙ ap (λ (m : ℕ). scaleNamed m n) (first-held h (omega (arith, c .before .if2 .left))) ∙ ap (λ (k : ℕ). scaleNamed (getD (numbersOf (bytes d)) 0 0) k) (h .counted) ∙ ap scaleFrom (formed (c .before) .1)
 
 -- and the arm that is taken has the scale
 scale : (c : tie.After-s) → scaleFrom (numbersIn (bytes (c .before .before .before .before .before))) ≡ answer (c .s .given .0 .0)
 scale c = sym (named (c .before .before)) ∙ ap scalePaper (c .s .given .1)
 
 returns : tie.Need-returns
-returns c = let l = c .before .before .args .bytes .now in sym (read-unformed l (LabelLength 0) (empty-form l (c .if1 .taken)))
-
-returns-2 : tie.Need-returns-2
-returns-2 c = let l = c .before .before .before .args .bytes .now in sym (read-unformed l (LabelLength 16) (long-form l (c .if2 .taken)))
+returns c = let l = c .before .before .args .bytes .now in sym (read-unformed l (LabelLength 16) (long-form l (c .if1 .taken)))
 
 slice-aggregate-numbers-in : tie.Need-slice-aggregate-numbers-in
 slice-aggregate-numbers-in c = search needs
 
 numbers-in-requires : tie.Need-numbers-in-requires
-numbers-in-requires c κs = (c .before .if2 .left, refl)
+numbers-in-requires c κs = (c .before .if1 .left, refl)
 
 form-fault-requires : tie.Need-form-fault-requires
-form-fault-requires c κs =
-    let d = c .before .before in
-    let e = d .before .before in
-    (omega (arith, e .before .if1 .left), (e .if2 .left, unformed (bytes d) (sym (d .numbers-in .ensures .counted) ∙ c .if3 .taken)))
+form-fault-requires c κs = let d = c .before .before in (d .before .before .if1 .left, unformed (bytes d) (sym (d .numbers-in .ensures .counted) ∙ c .if2 .taken))
 
-returns-3 : tie.Need-returns-3
-returns-3 c = sym (read-unformed (bytes (c .before .before .before)) (c .form-fault .result) (sym (c .form-fault .ensures)))
+returns-2 : tie.Need-returns-2
+returns-2 c = sym (read-unformed (bytes (c .before .before .before)) (c .form-fault .result) (sym (c .form-fault .ensures)))
 
 array-read-first : tie.Need-array-read-first
 array-read-first c = search needs
@@ -86,15 +80,15 @@ sheet-from-requires c κs =
     let e = others-held (d .numbers-in .ensures) ∙ ap (drop 1) (formed x .1) in
     (rw e (fields-named (numbersIn (bytes d)) (s .s .given .0 .0) (scale s)), e)
 
-returns-4 : tie.Need-returns-4
-returns-4 c =
+returns-3 : tie.Need-returns-3
+returns-3 c =
     let w = c .before in
     let x = w .before .before .before in
     let b = bytes (x .before .before) in
     sym (read-none b (formed x .0) (w .why .given .0 .0) (sym (named (w .before .before)) ∙ ap scalePaper (w .why .given .1)))
 
-returns-5 : tie.Need-returns-5
-returns-5 c =
+returns-4 : tie.Need-returns-4
+returns-4 c =
     let s = c .before .before .before .before in
     let x = s .before .before .before in
     c .sheet-from .ensures ∙ sym (read-named (bytes (x .before .before)) (formed x .0) (s .s .given .0 .0) (scale s))
@@ -104,11 +98,10 @@ read-label-spec =
     tie.close
     (tie.spec
     returns
-    returns-2
     slice-aggregate-numbers-in
     numbers-in-requires
     form-fault-requires
-    returns-3
+    returns-2
     array-read-first
     scale-named-requires
     enum-known-why
@@ -117,5 +110,5 @@ read-label-spec =
     part-sheet-from-start
     part-sheet-from-end
     sheet-from-requires
-    returns-4
-    returns-5)
+    returns-3
+    returns-4)
