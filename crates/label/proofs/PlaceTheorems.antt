@@ -215,12 +215,13 @@ module _ (label : List ℕ) (s : between 1 16 (length label) ≡ true) (k : ℕ)
 pub unknown-hides : (label : List ℕ) → wellFormed label ≡ true → ((s : ℕ) → NamedBy label s → ⊥) → readLabel label ≡ refused 21 0
 unknown-hides label f n = wrong-refused label (unknown f n)
 
--- "Which labels are accepted does not change": 4 is told apart, and nothing else. The ranges one by one are all in range together
+-- the ranges one by one have the value of the one test that document 01's reading had
 pub range-before : (m : Made) (fields : List ℕ) → inRange m fields ≡ inRangeBefore m fields
 unfolding inRange inRangeBefore ranges every
 range-before (ofArea r c) fields = ap (λ (b : Bool). between 101 (100 + r) (getD fields 0 0) && b) (and-true (between 1 c (getD fields 1 0)))
 range-before (ofScale s m k) fields = ap (λ (b : Bool). between 1 (k * k) (getD fields 0 0) && b) (range-before m (drop 1 fields))
 
+-- "Which labels are accepted does not change": 4 is told apart, and nothing else
 pub as-before : (label : List ℕ) → asBefore (readLabel label) ≡ readBefore label
 unfolding readLabel readBefore formed sheetNamed wellFormed
 as-before label = by (1 ≤? length label) (length label ≤? 16) (every isLabelByte label) (every isField fields) (isScale scale)
