@@ -50,13 +50,17 @@
 //!                               mark
 //!     bytes 3 0300d702bc        what is read from the bytes as a label, and as a list in room for so many sheets
 //!     vary 3 0300d702bc         a sum over what `bytes` tells when each byte in turn is changed to each of the 256
+//!     joined 3 63cc8cc48d       of the bytes, cut behind so many, whether the first part and the rest are the same name:
+//!                               same or different
 //!
 //! The questions that are stored there try, beside the examples: every border by one before, on and behind it (the area's and the sheets'
 //! edges by a millimetre and in metres by a float, the grids' ends, each scale's first and last sheet, each field's range, each length of a
 //! number in a list, room that just is enough, 4 096 and 4 097); extremes of 32 and 64 bits, and numbers that would look right if they lost
 //! their upper bits; the smallest and the largest floats, infinite ones and those that are no number; numbers that are no scale or no
 //! sheet; labels as the sources print them, with each kind of fault at each place, and with strange bytes; lists that are cut, badly
-//! written, too long or wrongly counted; two faults at once, for the order of refusals; and some by chance.
+//! written, too long or wrongly counted; two faults at once, for the order of refusals; names in both spellings and in a mixture, letters
+//! and marks that are not joined, marks that stand alone, twice, apart or broken, and names of unequal length that are the same; and some
+//! by chance.
 //!
 //! The lines of compare/examples.txt are document 01's examples and cases of document 02, question and answer written out by hand: these
 //! answers are not asked of the paper, but must be its own.
@@ -137,6 +141,10 @@ fn told_floats(answer: Answer<[u64; 6]>) -> String {
 /// The sheets of a rule: the first, and each later one so far from the one before, in 32 bits.
 fn ruled(first: u32, step: u32, count: usize) -> Vec<u32> {
     (0..count as u32).map(|k| first.wrapping_add(step.wrapping_mul(k))).collect()
+}
+
+fn joined(one: &[u8], other: &[u8]) -> String {
+    if paper::same_name(one, other) { "same" } else { "different" }.to_string()
 }
 
 struct Paper(Division);
@@ -252,15 +260,16 @@ impl Paper {
             let [scale, e, n] = rest.split(' ').collect::<Vec<_>>()[..] else { return None };
             return Some(self.under(scale.parse().ok()?, float(e)?, float(n)?));
         }
-        if let "heads" | "bytes" | "vary" = word {
-            let (room, digits) = rest.split_once(' ')?;
-            let room = room.parse().ok()?;
+        if let "heads" | "bytes" | "vary" | "joined" = word {
+            let (number, digits) = rest.split_once(' ')?;
+            let number = number.parse().ok()?;
             let places = (0..digits.len()).step_by(2);
             let bytes: Vec<u8> = places.map(|k| u8::from_str_radix(digits.get(k..k + 2)?, 16).ok()).collect::<Option<_>>()?;
             return Some(match word {
-                "heads" => spaced((0..=bytes.len()).map(|cut| self.read_list(&bytes[..cut], room))),
-                "bytes" => self.bytes(room, &bytes),
-                _ => self.vary(room, &bytes),
+                "heads" => spaced((0..=bytes.len()).map(|cut| self.read_list(&bytes[..cut], number))),
+                "bytes" => self.bytes(number, &bytes),
+                "vary" => self.vary(number, &bytes),
+                _ => joined(bytes.get(..number)?, &bytes[number..]),
             });
         }
         let numbers: Vec<i64> = rest.split(' ').map(|number| number.parse().ok()).collect::<Option<_>>()?;

@@ -711,11 +711,6 @@ pub enum Caption {
     OfFallback(Range<usize>),
 }
 
-/// "Two names are the same when their bytes are the same."
-pub fn same_name(one: &[u8], other: &[u8]) -> bool {
-    one == other
-}
-
 /// How many groups of seven bits a number takes.
 pub fn groups(number: u32) -> usize {
     let mut list = Vec::new();
@@ -772,6 +767,42 @@ fn place_list(list: &[u8], room: usize, placed: &mut Vec<u32>) -> Answer<()> {
     }
 }
 
+// ---- Document 02, c) "Names typed on two kinds of computer" ----
+
+/// "joining c, s, z and C, S, Z with CC 8C, and c and C with CC 81, into the Unicode single letters": each letter with its mark, and the
+/// single letter.
+pub const JOINED: [([u8; 3], [u8; 2]); 8] = [
+    ([b'c', 0xCC, 0x8C], [0xC4, 0x8D]), // č
+    ([b's', 0xCC, 0x8C], [0xC5, 0xA1]), // š
+    ([b'z', 0xCC, 0x8C], [0xC5, 0xBE]), // ž
+    ([b'C', 0xCC, 0x8C], [0xC4, 0x8C]), // Č
+    ([b'S', 0xCC, 0x8C], [0xC5, 0xA0]), // Š
+    ([b'Z', 0xCC, 0x8C], [0xC5, 0xBD]), // Ž
+    ([b'c', 0xCC, 0x81], [0xC4, 0x87]), // ć
+    ([b'C', 0xCC, 0x81], [0xC4, 0x86]), // Ć
+];
+
+/// A name, or any other bytes, in single letters, from left to right. "Nothing else is joined."
+pub fn joined(name: &[u8]) -> Vec<u8> {
+    let mut joined = Vec::new();
+    let mut rest = name;
+    while let Some((&byte, behind)) = rest.split_first() {
+        if let Some((marked, single)) = JOINED.iter().find(|(marked, _)| rest.starts_with(marked)) {
+            joined.extend(single);
+            rest = &rest[marked.len()..];
+        } else {
+            joined.push(byte);
+            rest = behind;
+        }
+    }
+    joined
+}
+
+/// "Names are the same when they are equal after joining".
+pub fn same_name(one: &[u8], other: &[u8]) -> bool {
+    joined(one) == joined(other)
+}
+
 // ---- "Table of examples" and "Slips that look right", with readings of open points ----
 
 #[cfg(test)]
@@ -794,6 +825,22 @@ mod tests {
 
     fn refuse_at<T>(number: u32, place: u64) -> Answer<T> {
         Err(Refusal { number, carries: Some(place) })
+    }
+
+    /// All texts over some bytes, of none up to so many.
+    fn texts(bytes: &[u8], most: usize) -> Vec<Vec<u8>> {
+        let mut texts = vec![Vec::new()];
+        let mut from = 0;
+        for _ in 0..most {
+            let to = texts.len();
+            for k in from..to {
+                for &byte in bytes {
+                    texts.push([&texts[k][..], &[byte]].concat());
+                }
+            }
+            from = to;
+        }
+        texts
     }
 
     #[test]
@@ -1168,24 +1215,93 @@ mod tests {
             assert_eq!(well_formed(label), [0, 5].contains(&number), "{label}");
         };
         // All texts of up to six letters, alone and behind the beginnings of labels.
-        const LETTERS: [&str; 5] = ["0", "1", "5", "-", "x"];
-        let mut texts = vec![String::new()];
-        let mut from = 0;
-        for _ in 0..6 {
-            let to = texts.len();
-            for k in from..to {
-                texts.extend(LETTERS.map(|letter| format!("{}{letter}", texts[k])));
-            }
-            from = to;
-        }
-        for text in &texts {
+        for text in texts(b"015-x", 6) {
             for before in ["", "50-", "25-1-", "5-1-1-", "5-1-1-1-", "5-1-1-115-1"] {
-                hold(&format!("{before}{text}"));
+                hold(&format!("{before}{}", text.escape_ascii()));
             }
         }
         for number in [0, 4, 5, 19, 20, 21] {
             assert!(counts[number] > 100, "{number}: {}", counts[number]);
         }
         assert_eq!(counts.iter().sum::<i32>(), 6 * 19_531);
+    }
+
+    // ---- Document 02, c) ----
+
+    /// The two marks, CC 8C and CC 81.
+    const CARON: char = '\u{30C}';
+    const ACUTE: char = '\u{301}';
+    const SINGLE: [(char, char, char); 8] = [
+        ('c', CARON, 'č'), ('s', CARON, 'š'), ('z', CARON, 'ž'), ('C', CARON, 'Č'), ('S', CARON, 'Š'), ('Z', CARON, 'Ž'),
+        ('c', ACUTE, 'ć'), ('C', ACUTE, 'Ć'),
+    ];
+
+    /// All letters of Unicode with the two marks, and all of its marks with the letters that are joined: "Nothing else is joined."
+    #[test]
+    fn letters_joined() {
+        let every_letter = ('\0'..=char::MAX).flat_map(|letter| [CARON, ACUTE].map(|mark| (letter, mark)));
+        let every_mark = ('\u{300}'..='\u{36F}').flat_map(|mark| ['c', 's', 'z', 'C', 'S', 'Z'].map(|letter| (letter, mark)));
+        for (letter, mark) in every_letter.chain(every_mark) {
+            let typed = format!("{letter}{mark}");
+            let single = SINGLE.iter().find(|&&(a, b, _)| (a, b) == (letter, mark));
+            let expected = single.map_or(typed.clone(), |(_, _, single)| single.to_string());
+            assert_eq!(joined(typed.as_bytes()), expected.as_bytes(), "{typed}");
+        }
+    }
+
+    #[test]
+    fn names() {
+        let same = |one: &str, other: &str| same_name(one.as_bytes(), other.as_bytes());
+        assert_eq!("Jančag".as_bytes(), b"Jan\xC4\x8Dag");
+        let alike = [
+            ("", ""), ("Jančag", "Jančag"), ("Jančag", "Janc\u{30C}ag"), ("Janc\u{30C}ag", "Janc\u{30C}ag"), ("Čakovec", "C\u{30C}akovec"),
+            ("Konjščina", "Konjs\u{30C}c\u{30C}ina"), ("Konjšc\u{30C}ina", "Konjs\u{30C}čina"), ("C\u{301}ićarija", "Ćic\u{301}arija"),
+            ("c\u{30C}\u{30C}", "č\u{30C}"), ("c\u{30C}c\u{30C}", "čč"), ("c\u{301}\u{30C}", "ć\u{30C}"), ("\u{30C}c\u{30C}", "\u{30C}č"),
+        ];
+        for (one, other) in alike {
+            assert!(same(one, other) && same(other, one), "{one} {other}");
+        }
+        let unlike = [
+            ("", "\u{30C}"), ("Jančag", "Jancag"), ("Janc\u{30C}ag", "Jancag"), ("Jančag", "Janćag"), ("Jančag", "Jan\u{30C}cag"),
+            ("C\u{30C}", "č"), ("c\u{30C}", "ć"), ("c\u{301}", "č"), ("s\u{301}", "ś"), ("z\u{301}", "ź"), ("d\u{30C}", "ď"),
+            ("c\u{30C}\u{30C}", "č"), ("c\u{30C}\u{30C}", "čč"), ("c\u{30C}\u{301}", "ć\u{30C}"), ("c\u{302}", "ĉ"), ("dž", "ǆ"),
+        ];
+        for (one, other) in unlike {
+            assert!(!same(one, other) && !same(other, one), "{one} {other}");
+        }
+        for (one, other) in [(&b"c\xCC"[..], &b"c"[..]), (b"c\xCC", b"\xC4"), (b"c\x8C", b"\xC4\x8D"), (b"c\xCC\xCC\x8C", b"\xC4\x8D")] {
+            assert!(!same_name(one, other) && !same_name(other, one) && same_name(one, one));
+        }
+    }
+
+    /// All names of up to six bytes over a few: "Joining twice changes nothing", and it is the same to join one kind of letter after
+    /// another, each wherever it stands.
+    #[test]
+    fn joined_twice() {
+        fn instead(name: &[u8], row: &([u8; 3], [u8; 2])) -> Vec<u8> {
+            match name.windows(3).position(|three| three == row.0) {
+                Some(place) => [&name[..place], &row.1, &instead(&name[place + 3..], row)[..]].concat(),
+                None => name.to_vec(),
+            }
+        }
+        for name in texts(b"cC\xCC\x8C\x81\xC4", 6) {
+            let once = joined(&name);
+            assert_eq!(joined(&once), once, "{name:x?}");
+            assert_eq!(JOINED.iter().fold(name.clone(), |name, row| instead(&name, row)), once, "{name:x?}");
+        }
+    }
+
+    /// "The part handed back is still the line's own bytes", and its length is theirs.
+    #[test]
+    fn parts_of_lines() {
+        for name in ["Jančag", "Janc\u{30C}ag"] {
+            let line = format!("50-109-11 {name}");
+            assert_eq!(division().read_line(line.as_bytes()), Line { sheet: Ok(344), label: 0..9, name: 10..line.len() });
+            assert_eq!(division().caption(line.as_bytes(), b"none"), Caption::OfLine(10..line.len()));
+        }
+        for (count, fine) in [(16, true), (17, false)] {
+            let line = format!("50-109-11 {}", "c\u{30C}".repeat(count));
+            assert_eq!(division().read_line(line.as_bytes()).sheet.is_ok(), fine);
+        }
     }
 }

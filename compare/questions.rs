@@ -1,7 +1,7 @@
 // What is asked: from every kind of question the plain cases, the borders by one, the extremes, and what is damaged.
 
 use crate::ask::{Asker, Question};
-use crate::paper::{self, Division, Frame, Made, Refusal, AREA_EAST, AREA_NORTH, AREA_SOUTH, AREA_WEST, LAST_SHEET, MOST, SCALES};
+use crate::paper::{self, Division, Frame, Made, Refusal, AREA_EAST, AREA_NORTH, AREA_SOUTH, AREA_WEST, JOINED, LAST_SHEET, MOST, SCALES};
 
 /// Numbers by chance, the same for the same seed.
 struct Chance(u64);
@@ -165,6 +165,17 @@ const TAILS: [&str; 12] = [
     " nnnnnnnnnnnnnnnnnnnnnnnnnnnnnnnnnnnnnnnnnnnnnnnnn",
 ];
 
+/// What looks like a letter that is joined: other letters with its marks, other marks, marks alone or broken, and single letters that are
+/// others or broken.
+const NEARLY_JOINED: [&[u8]; 30] = [
+    b"s\xCC\x81", b"z\xCC\x81", b"S\xCC\x81", b"Z\xCC\x81", b"d\xCC\x8C", b"D\xCC\x8C", b"e\xCC\x8C", b"n\xCC\x81", b"c\xCC\x80",
+    b"c\xCC\x82", b"s\xCC\x8B", b"z\xCC\x8D", b"c\xCD\x8C", b"\xCC\x8C", b"\xCC\x81", b"\xCC", b"\x8C", b"\x81", b"c\xCC", b"Z\xCC",
+    b"c\x8C", b"C\x81", b"\xC4", b"\xC5", b"\x8D", b"\xA1", b"\xC4\x8F", b"\xC4\x91", b"\xC5\x9B", b"\xC5\x8D",
+];
+
+/// Two letters that are joined and one that is not, the bytes of the marks, and those of a single letter.
+const BYTES_OF_NAMES: &[u8] = b"czd\xCC\x8C\x81\xC4\x8D";
+
 /// All texts over some letters, of no letter up to so many.
 fn texts(letters: &[u8], most: u32) -> impl Iterator<Item = Vec<u8>> + '_ {
     let text = move |length: u32, choice: usize| (0..length).map(|k| letters[choice / letters.len().pow(k) % letters.len()]).collect();
@@ -223,6 +234,8 @@ pub fn ask_all(division: &Division, asker: &mut Asker, seed: u64, long: bool) {
     asking.two_slips(if long { 8 } else { 1 });
     asking.ends_of_fields();
     asking.about_16_bytes();
+    asking.short_names(if long { 4 } else { 3 });
+    asking.short_names_joined(if long { 6 } else { 4 });
     asking.short_lists();
     asking.long_sets();
     if long {
@@ -1106,29 +1119,96 @@ impl Asking<'_, '_> {
         self.ask(Question::Caption { line, fallback });
     }
 
+    /// A name of plain letters, of those that are joined, in both spellings, and of what looks like these.
+    fn name_of_letters(&mut self) -> Vec<u8> {
+        let chance = &mut self.chance;
+        let count = match chance.below(12) {
+            0 => chance.below(3),
+            // About as long as the name of a line may be.
+            1 => 16 + chance.below(9),
+            2 => chance.below(100),
+            _ => 1 + chance.below(10),
+        };
+        let strange = chance.below(4);
+        let mut name = Vec::new();
+        for _ in 0..count {
+            let (marked, single) = chance.of(&JOINED);
+            match chance.below(12) {
+                0..=2 => name.extend(marked),
+                3..=5 => name.extend(single),
+                6..=8 if chance.below(3) < strange => name.extend(chance.of(&NEARLY_JOINED)),
+                _ => name.push(chance.of(b"cszCSZdaeikno (")),
+            }
+        }
+        name
+    }
+
+    /// The same name with some of its letters spelt the other way, or all, or none.
+    fn respelt(&mut self, name: &[u8]) -> Vec<u8> {
+        let often = self.chance.below(5);
+        let mut other = Vec::new();
+        let mut rest = name;
+        while let Some((&byte, behind)) = rest.split_first() {
+            let mut ways = JOINED.iter().flat_map(|(marked, single)| [(&marked[..], &single[..]), (&single[..], &marked[..])]);
+            match ways.find(|(from, _)| rest.starts_with(from)) {
+                Some((from, to)) if self.chance.below(4) < often => {
+                    other.extend(to);
+                    rest = &rest[from.len()..];
+                }
+                _ => {
+                    other.push(byte);
+                    rest = behind;
+                }
+            }
+        }
+        other
+    }
+
     fn about_names(&mut self) {
-        let a = self.name();
-        let mut b = a.clone();
-        match self.chance.below(8) {
+        let a = if self.chance.one_in(3) { self.name() } else { self.name_of_letters() };
+        let mut b = self.respelt(&a);
+        let end = b.len();
+        let place = self.chance.below(end.max(1));
+        match self.chance.below(16) {
             0 => b.push(self.chance.next() as u8),
-            1 => {
-                b.pop();
-            }
-            2 => b = self.name(),
-            3 | 4 if !b.is_empty() => {
-                let place = self.chance.below(b.len());
-                b[place] ^= 1 << self.chance.below(8);
-            }
-            5 if !b.is_empty() => {
-                let last = b.len() - 1;
-                b[last] = b[last].wrapping_add(1);
-            }
+            1 => b.extend(self.chance.of(&NEARLY_JOINED)),
+            2 => b.truncate(end.saturating_sub(1 + self.chance.below(3))),
+            3 => drop(b.splice(place..place, self.chance.of(&NEARLY_JOINED).iter().copied())),
+            4 => b = self.name(),
+            5 | 6 if end > 0 => b[place] ^= 1 << self.chance.below(8),
+            7 | 8 if end > 0 => b[place] = self.chance.of(BYTES_OF_NAMES),
+            9 if end > 0 => b[end - 1] = b[end - 1].wrapping_add(1),
+            10 if end > 0 => drop(b.remove(place)),
             _ => {}
         }
-        if self.chance.one_in(2) {
-            self.ask(Question::SameName { a, b });
-        } else {
-            self.ask(Question::SameName { a: b, b: a });
+        let (a, b) = if self.chance.one_in(2) { (a, b) } else { (b, a) };
+        self.ask(Question::SameName { a, b });
+    }
+
+    /// Every pair of a name of up to three bytes and one of up to so many, in either order.
+    fn short_names(&mut self, most: u32) {
+        for one in texts(BYTES_OF_NAMES, 3) {
+            for other in texts(BYTES_OF_NAMES, most) {
+                self.ask(Question::SameName { a: one.clone(), b: other.clone() });
+                if other.len() > 3 {
+                    self.ask(Question::SameName { a: other, b: one.clone() });
+                }
+            }
+        }
+    }
+
+    /// Every name of a few bytes with what it is joined into, whole and without each of its bytes, in either order.
+    fn short_names_joined(&mut self, most: u32) {
+        for one in texts(BYTES_OF_NAMES, most) {
+            let whole = paper::joined(&one);
+            for dropped in 0..=whole.len() {
+                let mut other = whole.clone();
+                if dropped < whole.len() {
+                    other.remove(dropped);
+                }
+                self.ask(Question::SameName { a: one.clone(), b: other.clone() });
+                self.ask(Question::SameName { a: other, b: one.clone() });
+            }
         }
     }
 

@@ -178,7 +178,10 @@ uint32_t qubathimi_line_parts(const uint8_t *line, size_t length, uint64_t *labe
 uint32_t qubathimi_caption(const uint8_t *line, size_t line_length, const uint8_t *fallback, size_t fallback_length, uint64_t *value,
                            uint64_t *start, uint64_t *end);
 
-/* Whether two names are the same: whether their bytes are. Any bytes may be compared; nothing is refused. */
+/* Whether two names are the same, whichever kind of computer each was typed on: whether their bytes are equal once a letter with the mark
+ * behind it is joined into the single letter, c, s, z, C, S and Z with CC 8C into C4 8D, C5 A1, C5 BE, C4 8C, C5 A0 and C5 BD, and c and
+ * C with CC 81 into C4 87 and C4 86. Nothing else is joined, and nothing is written: names stay the bytes that they are. Any bytes may be
+ * compared, of any lengths; nothing is refused. examples/same.c compares two catalogues by it. */
 bool qubathimi_same_name(const uint8_t *a, size_t a_length, const uint8_t *b, size_t b_length);
 
 /* ---- Shelf lists ---- */

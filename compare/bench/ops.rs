@@ -16,6 +16,7 @@ use sheets::{LAST_SHEET, LONGEST_LABEL, MOST_SHEETS, SCALES};
 const SEED: u64 = 1;
 const LABELS: usize = 65_536;
 const POINTS: usize = 65_536;
+const NAMES: usize = 65_536;
 const LARGE_SETS: usize = 16;
 const SMALL_SETS: usize = 4_096;
 /// The bytes of the longest list: two for its count, and four for each sheet.
@@ -26,6 +27,7 @@ extern "C" {
     fn qubathimi_write_label(sheet: u32, room: *mut u8, length: usize, value: &mut u64) -> u32;
     fn qubathimi_sheet_at(scale: u32, e: i64, n: i64, value: &mut u64) -> u32;
     fn qubathimi_sheet_at_metres(scale: u32, e: f64, n: f64, value: &mut u64) -> u32;
+    fn qubathimi_same_name(a: *const u8, a_length: usize, b: *const u8, b_length: usize) -> bool;
     fn qubathimi_write_list(sheets: *const u32, count: usize, room: *mut u8, length: usize, value: &mut u64) -> u32;
     fn qubathimi_read_list(list: *const u8, length: usize, room: *mut u32, room_length: usize, placed: &mut u64, value: &mut u64) -> u32;
 }
@@ -78,6 +80,49 @@ fn in_metres(points: &[(u32, i64, i64)]) -> Vec<(u32, f64, f64)> {
     let numbers = &mut Numbers(SEED);
     let mut any_part = || if numbers.draw(0, 7) == 0 { 0.0 } else { numbers.draw(0, 999_999) as f64 / 1e6 };
     points.iter().map(|&(scale, e, n)| (scale, (e as f64 + any_part()) / 1000.0, (n as f64 - any_part()) / 1000.0)).collect()
+}
+
+/// What a name begins with, and what follows: some about as often as in the catalogues, and those that have two spellings more often.
+const CAPITALS: &str = "ABDGIJKLMNOPRTUVČŠŽĆ";
+const LETTERS: &str = "aaaaaaiiiioooeeeerrnnvvljjkkuttcsdgbpm čšžć";
+/// The latter, with the longer spelling.
+const SPELLINGS: [(char, &str); 8] = [
+    ('č', "c\u{30C}"),
+    ('š', "s\u{30C}"),
+    ('ž', "z\u{30C}"),
+    ('ć', "c\u{301}"),
+    ('Č', "C\u{30C}"),
+    ('Š', "S\u{30C}"),
+    ('Ž', "Z\u{30C}"),
+    ('Ć', "C\u{301}"),
+];
+
+fn any_of(letters: &str, numbers: &mut Numbers) -> char {
+    letters.chars().nth(numbers.draw(0, letters.chars().count() as u64 - 1) as usize).unwrap()
+}
+
+/// Pairs of names, of 5 to 30 bytes in the shorter spelling: one pair in ten differs in a letter, and one name in three is in the longer.
+fn names() -> Vec<(String, String)> {
+    // Numbers of their own, as for points in metres.
+    let numbers = &mut Numbers(SEED);
+    let any_pair = |_| {
+        let length = numbers.draw(5, 29) as usize;
+        let mut name = any_of(CAPITALS, numbers).to_string();
+        while name.len() < length {
+            name.push(any_of(LETTERS, numbers));
+        }
+        let mut other: Vec<char> = name.chars().collect();
+        if numbers.draw(0, 9) == 0 {
+            let at = numbers.draw(0, other.len() as u64 - 1) as usize;
+            other[at] = 'x'; // no name has one
+        }
+        let mut spelt = |name: String| {
+            let longer = |name: String, &(single, marked): &(char, &str)| name.replace(single, marked);
+            if numbers.draw(0, 2) == 0 { SPELLINGS.iter().fold(name, longer) } else { name }
+        };
+        (spelt(name), spelt(other.into_iter().collect()))
+    };
+    (0..NAMES).map(any_pair).collect()
 }
 
 /// As many sheets as a list may have, in three steps of size: most follow closely, some lie further on, a few far.
@@ -164,6 +209,15 @@ fn our_sheet_at_metres(&(scale, e, n): &(u32, f64, f64)) -> (u32, u64) {
     let mut value = 0;
     let status = unsafe { qubathimi_sheet_at_metres(scale, e, n, &mut value) };
     (status, value)
+}
+
+#[inline(never)]
+fn rust_same_name((a, b): &(String, String)) -> (u32, u64) {
+    (sheets::same_name(a.as_bytes(), b.as_bytes()) as u32, 0)
+}
+
+fn our_same_name((a, b): &(String, String)) -> (u32, u64) {
+    (unsafe { qubathimi_same_name(a.as_ptr(), a.len(), b.as_ptr(), b.len()) } as u32, 0)
 }
 
 #[inline(never)]
@@ -292,6 +346,8 @@ fn main() {
     both.race("point in metres to sheet, scales mixed", &metres, 1, 0, |q, _: &mut [u8]| ours(q), |q, _| rust(q));
     metres.sort_by_key(|&(scale, _, _)| scale);
     both.race("point in metres to sheet, scale by scale", &metres, 1, 0, |q, _: &mut [u8]| ours(q), |q, _| rust(q));
+
+    both.race("name comparing", &names(), 1, 0, |q, _: &mut [u8]| our_same_name(q), |q, _| rust_same_name(q));
 
     let large: Vec<Vec<u32>> = (0..LARGE_SETS).map(|_| large_set(numbers)).collect();
     let small: Vec<Vec<u32>> = (0..SMALL_SETS).map(|_| small_set(numbers)).collect();

@@ -1,8 +1,8 @@
-//! The definition in plain Rust, for its time alone: labels, points, also in metres, and shelf lists.
+//! The definition in plain Rust, for its time alone: labels, points, also in metres, names and shelf lists.
 //!
 //! Written as a careful Rust programmer would write it: one table, one pass over the bytes, no allocation, and a second pass only for the
-//! place at which a label is at fault. A refusal is its number, with that place beside it, or the room needed where lent room can be too
-//! short. Each program here uses a part of it.
+//! place at which a label is at fault, and for names of which not all bytes are the same. A refusal is its number, with that place beside
+//! it, or the room needed where lent room can be too short. Each program here uses a part of it.
 #![allow(dead_code)]
 
 pub const LAST_SHEET: u32 = 7_953_173;
@@ -272,6 +272,40 @@ pub fn sheet_at_metres(scale: u32, e: f64, n: f64) -> Result<u32, u32> {
     match (thousandths::<false>(e), thousandths::<true>(n)) {
         (Some(e), Some(n)) => sheet_at(scale, e, n),
         _ => Err(1),
+    }
+}
+
+// ---- names
+
+/// The single letter that a letter is joined into with the mark of CC and this byte.
+fn single(letter: u8, mark: u8) -> Option<[u8; 2]> {
+    Some(match (letter, mark) {
+        (b'c', 0x8C) => [0xC4, 0x8D],
+        (b's', 0x8C) => [0xC5, 0xA1],
+        (b'z', 0x8C) => [0xC5, 0xBE],
+        (b'C', 0x8C) => [0xC4, 0x8C],
+        (b'S', 0x8C) => [0xC5, 0xA0],
+        (b'Z', 0x8C) => [0xC5, 0xBD],
+        (b'c', 0x81) => [0xC4, 0x87],
+        (b'C', 0x81) => [0xC4, 0x86],
+        _ => return None,
+    })
+}
+
+/// Of bytes that agree it does not matter what they are part of: only where two differ, one name must have a letter with its mark there,
+/// and the other the single letter. Most names are spelt alike, and are found so first.
+pub fn same_name(mut a: &[u8], mut b: &[u8]) -> bool {
+    if a == b {
+        return true;
+    }
+    loop {
+        let alike = a.iter().zip(b).take_while(|(x, y)| x == y).count();
+        (a, b) = match (&a[alike..], &b[alike..]) {
+            ([], []) => return true,
+            ([letter, 0xCC, mark, a @ ..], [x, y, b @ ..]) if single(*letter, *mark) == Some([*x, *y]) => (a, b),
+            ([x, y, a @ ..], [letter, 0xCC, mark, b @ ..]) if single(*letter, *mark) == Some([*x, *y]) => (a, b),
+            _ => return false,
+        };
     }
 }
 

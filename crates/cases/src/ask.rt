@@ -3,6 +3,7 @@ use crate::labels;
 use crate::lists;
 use crate::metres;
 use crate::sheets;
+use crate::spelt;
 use crate::write;
 use crate::write::OUT;
 
@@ -55,14 +56,16 @@ fn other(kind: u8, s: &[u8]) {
         b'h' => lists::heads(s),
         b'v' => lists::vary(s),
         b'm' => lists::many(s),
-        _ => in_metres(kind, s),
+        _ => requested(kind, s),
     }
 }
 
-fn in_metres(kind: u8, s: &[u8]) {
+// What the change requests brought.
+fn requested(kind: u8, s: &[u8]) {
     match kind {
         b'q' => metres::quad(s),
         b'u' => metres::under(s),
+        b'j' => spelt::alike(s),
         _ => none(),
     }
 }

@@ -9,6 +9,7 @@ mod part;
 mod read;
 mod room;
 mod sheets;
+mod spelt;
 mod write;
 
 use libc::STDIN_FILENO;

@@ -10,7 +10,7 @@ ghost use lib.ListN.{length};
 ghost use Rattle.division.specs.Answers.{sheetPaper};
 ghost use Rattle.division.specs.Words.{between};
 ghost use Rattle.label.specs.Text.{every};
-ghost use Rattle.catalogue.specs.Line.{labelIn, isNameByte, isName, withName, readLine, SameName, Tells};
+ghost use Rattle.catalogue.specs.Line.{labelIn, isNameByte, isName, withName, readLine};
 ghost use Rattle.catalogue.specs.Given.{namedPaper};
 
 // Where a line's label ends: at its first space, or at the line's end. No label has 17 bytes, so the search ends there.
@@ -97,21 +97,4 @@ fn named(found: Found, name: &[u8]) -> Found
         Found::Refused(why) => Found::Refused(why),
         Found::Sheet(n) => with_name(n, name),
     }
-}
-
-// Two names are the same when their bytes are the same.
-pub fn same_name(a: &[u8], b: &[u8]) -> bool
-    ensures { λ r. ⌜ Tells r (SameName (now (a .entry)) (now (b .entry))) ⌝ }
-{
-    if a.len() != b.len() {
-        return false;
-    }
-    let mut i: usize = 0;
-    while i < a.len() {
-        if a[i] != b[i] {
-            return false;
-        }
-        i += 1;
-    }
-    true
 }

@@ -1,11 +1,12 @@
 // Catalogue lines, their parts and captions.
 use crate::tell::tell_sheet;
 use catalogue::line::read_line;
-use catalogue::line::same_name;
 use catalogue::parts::spans_of;
+use names::same_name;
 ghost use mathlib.Core.Path.{_≡_};
-ghost use Rattle.catalogue.specs.Line.{readLine, SameName, Tells};
+ghost use Rattle.catalogue.specs.Line.{readLine};
 ghost use Rattle.catalogue.specs.Parts.{labelPart, namePart, caption};
+ghost use Rattle.names.specs.Name.{SameName, Tells};
 ghost use Rattle.qubathimi_c.specs.Told.{status, carried};
 ghost use Rattle.qubathimi_c.specs.Plain.{source, partOf};
 

@@ -1,0 +1,5 @@
+pub mod RowLaws
+pub mod JoinLaws
+pub mod FrontLaws
+pub mod WalkLaws
+pub mod NameTheorems

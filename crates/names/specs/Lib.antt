@@ -1,0 +1,3 @@
+pub mod Name
+pub mod Theorems
+pub mod Given
