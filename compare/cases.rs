@@ -143,7 +143,7 @@ fn ruled(first: u32, step: u32, count: usize) -> Vec<u32> {
     (0..count as u32).map(|k| first.wrapping_add(step.wrapping_mul(k))).collect()
 }
 
-fn joined(one: &[u8], other: &[u8]) -> String {
+fn alike(one: &[u8], other: &[u8]) -> String {
     if paper::same_name(one, other) { "same" } else { "different" }.to_string()
 }
 
@@ -269,7 +269,7 @@ impl Paper {
                 "heads" => spaced((0..=bytes.len()).map(|cut| self.read_list(&bytes[..cut], number))),
                 "bytes" => self.bytes(number, &bytes),
                 "vary" => self.vary(number, &bytes),
-                _ => joined(bytes.get(..number)?, &bytes[number..]),
+                _ => alike(bytes.get(..number)?, &bytes[number..]),
             });
         }
         let numbers: Vec<i64> = rest.split(' ').map(|number| number.parse().ok()).collect::<Option<_>>()?;

@@ -3,8 +3,9 @@
  *     same ONE TWO
  *
  * Prints a row for every line of ONE and line of TWO that are of one sheet, in the order of ONE, with tabs between: the two lines' numbers,
- * "same" or "other" for their names, the label, the name in ONE and, where its bytes are others, the name in TWO. Refused lines are told on
- * standard error. Ends with 1 where a file cannot be read or the rows not be written. */
+ * "same" or "other" for their names, the label, the name in ONE and, where its bytes are others, the name in TWO. Two lines without a name
+ * have the same one, of no bytes. Refused lines are told first, on standard error. Ends with 1 where a file cannot be read or the rows
+ * cannot be written. */
 #include <inttypes.h>
 #include <stdio.h>
 #include <stdlib.h>

@@ -1,8 +1,8 @@
 -- What stands at the front of a name: a letter with its mark, which is joined; or a byte that is kept. Where another name has a letter with
 -- its mark, this one begins, joined, with the same letter exactly if it has the letter with its mark too, or the single letter's two bytes,
--- since what is joined begins with a leading byte and never with one that follows. Assumes nothing.
+-- since a single letter begins with a leading byte and never with one that follows. Assumes nothing.
 use mathlib.Core.Path.{_≡_, refl, sym, ap, _∙_}
-use mathlib.Core.Bool.{Bool, true, false, not}
+use mathlib.Core.Bool.{true, false, not, false≢true}
 use mathlib.Core.List.{List, [], _∷_, tail}
 use mathlib.Core.Option.{none, some}
 use Prim.Native.Nat.{ℕ, zero, suc, _+_, _-_, _*_, _≤_, _<_}
@@ -85,7 +85,7 @@ module _ {bytes : List ℕ} (o : Front bytes) where
       let j : y ≡ g = omega (arith, number-is, shape .second .1, small 1) in
       (omega arith, rw (i, j) (both-pass f g other (omega (arith, shape .first .0)) (shape .second .0)))
 
-  -- one that has neither these nor the letter with its mark. A byte that follows the leading one is kept, since what is joined leads
+  -- one that has neither these nor the letter with its mark. A byte that follows the leading one is kept, since a single letter begins with one that leads
   follower : (x : ℕ) (other : List ℕ) {rest : List ℕ} → x ≡ f → joined other ≡ g ∷ rest → pairIn (x ∷ other) ≡ f * 256 + g
   unfolding joined
   follower x [] i e = absurd (omega (arith, ap length e))
@@ -106,9 +106,6 @@ module _ {bytes : List ℕ} (o : Front bytes) where
 
 -- ---- two names whose first bytes differ
 
-not-both : {t : Bool} → t ≡ true → t ≡ false → ⊥
-not-both y n = let z : true ≡ false = sym y ∙ n in let o : _≡_ {A = ℕ} 0 1 = cc in omega arith
-
 apart-is : (a b : List ℕ) → (number (letterIn a) ≡ 0 → ⊥) → pairIn b ≡ number (letterIn a) → isApart a b ≡ true
 apart-is a b n e = rw (ne-eqb (number (letterIn a)) 0 n, eq-eqb (number (letterIn a)) (pairIn b) (sym e))
 
@@ -116,7 +113,7 @@ pub is-apart : (a b : List ℕ) → isApart a b ≡ true → (number (letterIn a
 is-apart a b e =
     let p = number (letterIn a) in
     let k = both (not (p =? 0)) (p =? pairIn b) e in
-    (λ z. not-both (k .0) (ap not (eq-eqb p 0 z)), sym (eqb-true p (pairIn b) (k .1)))
+    (λ z. false≢true (sym (ap not (eq-eqb p 0 z)) ∙ k .0), sym (eqb-true p (pairIn b) (k .1)))
 
 -- neither has a letter with its mark where the other has the single letter
 pub neither : (a b : List ℕ) → 0 < length a → 0 < length b → (first a ≡ first b → ⊥) → isApart a b ≡ false → isApart b a ≡ false → joined a ≡ joined b → ⊥
@@ -126,11 +123,11 @@ neither a b h l n e f g = by (number (letterIn a)) refl (number (letterIn b)) re
     by (suc p) x q y =
         let k : number (letterIn a) ≡ 0 → ⊥ = λ z. omega arith in
         let o = front a k in
-        no-pair o b (λ i. n (ap first (o .bytes-are) ∙ i)) (λ i. not-both (apart-is a b k i) e) (sym g ∙ o .joined-is)
+        no-pair o b (λ i. n (ap first (o .bytes-are) ∙ i)) (λ i. false≢true (sym e ∙ apart-is a b k i)) (sym g ∙ o .joined-is)
     by zero x (suc q) y =
         let k : number (letterIn b) ≡ 0 → ⊥ = λ z. omega arith in
         let o = front b k in
-        no-pair o a (λ i. n (sym (ap first (o .bytes-are) ∙ i))) (λ i. not-both (apart-is b a k i) f) (g ∙ o .joined-is)
+        no-pair o a (λ i. n (sym (ap first (o .bytes-are) ∙ i))) (λ i. false≢true (sym f ∙ apart-is b a k i)) (g ∙ o .joined-is)
     by zero x zero y = n (ap first (sym (no-front a h x) ∙ g ∙ no-front b l y))
 
 -- ---- the bytes at a place

@@ -1,4 +1,4 @@
--- How a name is joined, byte by byte: what is no letter is said as it is, and what begins with no byte of a mark is joined by itself, since
+-- How a name is joined, byte by byte: a byte from 80 on is kept as it is, and what begins with no byte of a mark is joined by itself, since
 -- a mark is joined to what stands in front of it. Assumes nothing.
 use mathlib.Core.Path.{_≡_, refl, ap, _∙_}
 use mathlib.Core.List.{List, [], _∷_, _++_}
@@ -28,7 +28,7 @@ module _ (a m n : ℕ) (bytes : List ℕ) where
   unfolding joined
   keeps e = rw e
 
--- what is no letter
+-- a byte that is not plain, and two of them
 pub passes : (b : ℕ) (bytes : List ℕ) → 0x80 ≤ b → joined (b ∷ bytes) ≡ b ∷ joined bytes
 unfolding joined
 passes b [] h = refl

@@ -1,20 +1,22 @@
--- What the words of document 02, c), say of joining and of names that are the same. What is joined has no letter with its mark left in it,
--- since no byte of a single letter is a letter or begins a mark. Assumes nothing.
+-- What the words of document 02, c), say of joining and of names that are the same. Joining again finds nothing, since the first byte of a
+-- single letter is no byte of a letter with its mark, and the second is no letter and begins no mark. Assumes nothing.
 use mathlib.Core.Path.{_≡_, refl, sym, ap, _∙_}
 use mathlib.Core.Bool.{Bool, true, false, _&&_, _||_}
 use mathlib.Core.List.{List, [], _∷_, _++_, map, tail, List·Memᴰ}
 use mathlib.Core.Logic.{_↔_, _⊎_, inl, inr, ⊎-elim}
 use mathlib.Core.Option.{Option, none, some}
-use Prim.Native.Nat.{ℕ}
+use Prim.Native.Nat.{ℕ, _≤_}
 use Prim.Native.Char.{code}
 use native.Mathlib.Omega.{arith}
 use borrow.Author.Tests.{eqb-true}
+use lib.ListN.{length, length-append}
 use lib.Seq.{append-snoc}
 use Rattle.division.specs.Words.{_=?_}
 use Rattle.division.proofs.TestLaws.{both}
 use Rattle.label.specs.Text.{text, every}
-use Rattle.names.specs.Name.{Row, table, singleIn, single, put, joined, SameName, Tells}
-use Rattle.names.specs.Theorems.{apart, together, StandsIn, Unmarked, Respelled, unchanged, letter, back, onwards}
+use Rattle.names.specs.Name.{Row, table, singleIn, single, put, joined, SameName}
+use Rattle.names.specs.Given.{Tells}
+use Rattle.names.specs.Theorems.{apart, together, StandsIn, Unmarked, Respelt, unchanged, letter, back, onwards}
 use Rattle.names.proofs.RowLaws.{each-row, row-of, Formed, formed, not-joined, one-row}
 use Rattle.names.proofs.JoinLaws.{on, first, joins, keeps, both-pass, Begins, kept, joint, begins, by-itself}
 
@@ -145,8 +147,27 @@ module _ (row : Row) (listed : List·Memᴰ row table) (before after : List ℕ)
       ap (λ (t : List ℕ). joined before ++ t) (both-pass (row .single .0) (row .single .1) after (omega (arith, shape .first .0)) (shape .second .0))
 
   -- so the two spellings are the same name
-  pub spelled-alike : SameName (before ++ (apart row ++ after)) (before ++ (together row ++ after))
-  spelled-alike = letter-joined ∙ sym letter-stays
+  pub spelt-alike : SameName (before ++ (apart row ++ after)) (before ++ (together row ++ after))
+  spelt-alike = letter-joined ∙ sym letter-stays
+
+-- so what is joined has no letter with its mark left in it: joined again it would be shorter
+joined-shorter : (bytes : List ℕ) → length (joined bytes) ≤ length bytes
+unfolding joined
+joined-shorter [] = omega arith
+joined-shorter (a ∷ []) = omega arith
+joined-shorter (a ∷ m ∷ []) = omega arith
+joined-shorter (a ∷ m ∷ n ∷ bytes) = by (single a m n) (joined-shorter bytes) (joined-shorter (m ∷ n ∷ bytes))
+  where
+    by : (o : Option (ℕ × ℕ)) → length (joined bytes) ≤ length bytes → length (joined (m ∷ n ∷ bytes)) ≤ length (m ∷ n ∷ bytes) → length (put o (joined bytes) (a ∷ joined (m ∷ n ∷ bytes))) ≤ length (a ∷ m ∷ n ∷ bytes)
+    by none i j = omega arith
+    by (some s) i j = omega arith
+
+pub none-left : (row : Row) → List·Memᴰ row table → (name : List ℕ) → StandsIn (apart row) (joined name) → ⊥
+none-left row listed name s =
+    let e = sym (s .is) ∙ sym (joined-twice name) ∙ ap joined (s .is) ∙ letter-joined row listed (s .before) (s .after) in
+    let long = length-append (s .before) (apart row ++ s .after) in
+    let short = length-append (joined (s .before)) (together row ++ joined (s .after)) in
+    omega (arith, ap length e, long, short, joined-shorter (s .before), joined-shorter (s .after))
 
 -- ---- "Nothing else is joined"
 
@@ -199,49 +220,51 @@ unmarked-same a b u v e = sym (unmarked-stays a u) ∙ e ∙ unmarked-stays b v
 
 -- ---- names are the same exactly if letters typed in their other spelling make one of them from the other
 
-same-respelled : {a b : List ℕ} → Respelled a b → SameName a b
-same-respelled (unchanged e) = ap joined e
-same-respelled (letter row l before after e f) = ap joined e ∙ spelled-alike row l before after ∙ sym (ap joined f)
-same-respelled (back r) = sym (same-respelled r)
-same-respelled (onwards c r t) = same-respelled r ∙ same-respelled t
+same-respelt : {a b : List ℕ} → Respelt a b → SameName a b
+same-respelt (unchanged e) = ap joined e
+same-respelt (letter row l before after e f) = ap joined e ∙ spelt-alike row l before after ∙ sym (ap joined f)
+same-respelt (back r) = sym (same-respelt r)
+same-respelt (onwards c r t) = same-respelt r ∙ same-respelt t
 
-behind-byte : (x : ℕ) {a b : List ℕ} → Respelled a b → Respelled (x ∷ a) (x ∷ b)
+behind-byte : (x : ℕ) {a b : List ℕ} → Respelt a b → Respelt (x ∷ a) (x ∷ b)
 behind-byte x (unchanged e) = unchanged (ap (on x) e)
 behind-byte x (letter row l before after e f) = letter row l (x ∷ before) after (ap (on x) e) (ap (on x) f)
 behind-byte x (back r) = back (behind-byte x r)
 behind-byte x (onwards c r t) = onwards (x ∷ c) (behind-byte x r) (behind-byte x t)
 
-respelled-joined : (a : List ℕ) → Respelled a (joined a)
+respelt-joined : (a : List ℕ) → Respelt a (joined a)
 unfolding joined
-respelled-joined [] = unchanged refl
-respelled-joined (a ∷ []) = unchanged refl
-respelled-joined (a ∷ m ∷ []) = unchanged refl
-respelled-joined (a ∷ m ∷ n ∷ bytes) = by (single a m n) refl (respelled-joined bytes) (respelled-joined (m ∷ n ∷ bytes))
+respelt-joined [] = unchanged refl
+respelt-joined (a ∷ []) = unchanged refl
+respelt-joined (a ∷ m ∷ []) = unchanged refl
+respelt-joined (a ∷ m ∷ n ∷ bytes) = by (single a m n) refl (respelt-joined bytes) (respelt-joined (m ∷ n ∷ bytes))
   where
-    by : (o : Option (ℕ × ℕ)) → single a m n ≡ o → Respelled bytes (joined bytes) → Respelled (m ∷ n ∷ bytes) (joined (m ∷ n ∷ bytes)) → Respelled (a ∷ m ∷ n ∷ bytes) (put o (joined bytes) (a ∷ joined (m ∷ n ∷ bytes)))
+    by : (o : Option (ℕ × ℕ)) → single a m n ≡ o → Respelt bytes (joined bytes) → Respelt (m ∷ n ∷ bytes) (joined (m ∷ n ∷ bytes)) → Respelt (a ∷ m ∷ n ∷ bytes) (put o (joined bytes) (a ∷ joined (m ∷ n ∷ bytes)))
     by none e i j = behind-byte a j
     by (some s) e i j =
         let r = row-of table a m n e in
-        let k : Respelled (a ∷ m ∷ n ∷ bytes) (s .0 ∷ s .1 ∷ bytes) =
+        let k : Respelt (a ∷ m ∷ n ∷ bytes) (s .0 ∷ s .1 ∷ bytes) =
         letter {a = a ∷ m ∷ n ∷ bytes} {b = s .0 ∷ s .1 ∷ bytes} (r .row) (r .listed) [] bytes (rw (r .is-letter, r .is-mark .0, r .is-mark .1)) (rw (r .is-single)) in
         onwards (s .0 ∷ s .1 ∷ bytes) k (behind-byte (s .0) (behind-byte (s .1) i))
 
-pub same-iff : (a b : List ℕ) → SameName a b ↔ Respelled a b
-same-iff a b = (λ e. onwards (joined a) (respelled-joined a) (onwards (joined b) (unchanged e) (back (respelled-joined b))), same-respelled)
+pub same-iff : (a b : List ℕ) → SameName a b ↔ Respelt a b
+same-iff a b = (λ e. onwards (joined a) (respelt-joined a) (onwards (joined b) (unchanged e) (back (respelt-joined b))), same-respelt)
 
 -- ---- the request's name, and what is like its letters and is not joined
 
 -- "One catalogue writes č as C4 8D, the other as c followed by CC 8C, and Jančag stands twice"
-pub one-sheet : SameName (text "Jan" ++ (0xC4 ∷ 0x8D ∷ text "ag")) (text "Janc" ++ (0xCC ∷ 0x8C ∷ text "ag"))
+pub one-name : SameName (text "Jan" ++ (0xC4 ∷ 0x8D ∷ text "ag")) (text "Janc" ++ (0xCC ∷ 0x8C ∷ text "ag"))
 unfolding joined table singleIn text
-one-sheet = refl
+one-name = refl
 
--- ś, ź and ď typed with a mark, a mark alone, half a mark; and of two marks the first
+-- ś, ź and ď typed with a mark, đ typed with a stroke and as a single letter, a mark alone, half a mark; and of two marks the first is joined
 abbrev typed : List (List ℕ)
 typed =
     (code "s" ∷ 0xCC ∷ 0x81 ∷ []) ∷
     (code "z" ∷ 0xCC ∷ 0x81 ∷ []) ∷
     (code "d" ∷ 0xCC ∷ 0x8C ∷ []) ∷
+    (code "d" ∷ 0xCC ∷ 0xB5 ∷ []) ∷
+    (0xC4 ∷ 0x91 ∷ []) ∷
     (0xCC ∷ 0x8C ∷ code "c" ∷ []) ∷
     (code "c" ∷ 0xCC ∷ []) ∷ []
 

@@ -9,8 +9,8 @@ use native.Mathlib.Numerals.{add-one}
 use native.Mathlib.Omega.{arith}
 use lib.ListN.{length, getD, drop, length-drop, drop-of-length-le}
 use lib.Seq.{drop-cons, drop-drop, getD-drop}
-use Rattle.names.specs.Name.{joined, SameName, Tells}
-use Rattle.names.specs.Given.{isApart}
+use Rattle.names.specs.Name.{joined, SameName}
+use Rattle.names.specs.Given.{isApart, Tells}
 use Rattle.names.proofs.NameTheorems.{same-behind}
 use Rattle.names.proofs.FrontLaws.{not-empty, front, long, joined-on, pair-on, is-apart, neither, first-at}
 
@@ -25,6 +25,10 @@ pub record Going (a b : List ℕ) (i j : ℕ) : Type 0 where
   pub in-b : j ≤ length b
   pub left : SameName a b ↔ (joined (drop i a) ≡ joined (drop j b))
 
+-- the names the other way round
+turned : {a b : List ℕ} {i j : ℕ} → Going a b i j → Going b a j i
+turned g = record { in-a = g .in-b; in-b = g .in-a; left = (λ s. sym (g .left .0 (sym s)), λ s. sym (g .left .1 (sym s))) }
+
 behind-small : (name : List ℕ) (i : ℕ) → ((k : ℕ) → getD name k 0 < 256) → (k : ℕ) → getD (drop i name) k 0 < 256
 behind-small name i small k = rw (getD-drop i name k 0) (small (i + k))
 
@@ -32,19 +36,13 @@ drop-first : (name : List ℕ) (i : ℕ) → i < length name → drop i name ≡
 drop-first name i h = drop-cons name i 0 h ∙ rw (add-one i)
 
 module _ {a b : List ℕ} {i j : ℕ} (g : Going a b i j) where
-  -- one name has come to its end
-  pub second-ends : i < length a → length b ≤ j → Tells false (SameName a b)
-  unfolding joined
-  second-ends h l =
-      fails (λ s. not-empty (drop i a) (omega (arith, length-drop i a)) (g .left .0 s ∙ ap joined (drop-of-length-le b l)))
-
-  pub first-ends : length a ≤ i → j < length b → Tells false (SameName a b)
-  unfolding joined
-  first-ends h l =
-      fails (λ s. not-empty (drop j b) (omega (arith, length-drop j b)) (sym (g .left .0 s) ∙ ap joined (drop-of-length-le a h)))
-
+  -- both names have come to their end, or only the second
   pub both-end : length a ≤ i → length b ≤ j → Tells true (SameName a b)
   both-end h l = holds (g .left .1 (rw (drop-of-length-le a h, drop-of-length-le b l)))
+
+  longer : i < length a → length b ≤ j → SameName a b → ⊥
+  unfolding joined
+  longer h l s = not-empty (drop i a) (omega (arith, length-drop i a)) (g .left .0 s ∙ ap joined (drop-of-length-le b l))
 
   -- the same byte in both
   pub same-byte : i < length a → j < length b → getD a i 0 ≡ getD b j 0 → Going a b (i + 1) (j + 1)
@@ -76,13 +74,18 @@ module _ {a b : List ℕ} {i j : ℕ} (g : Going a b i j) where
       let t = pair-on o (drop j b) (behind-small b j small) (p .1) in
       letter-passed (o .letter .0) (o .letter .1) (long o) (t .0) (joined-on o) (t .1)
 
-  pub apart-in-second : ((k : ℕ) → getD a k 0 < 256) → isApart (drop j b) (drop i a) ≡ true → Going a b (i + 2) (j + 3)
-  apart-in-second small e =
-      let p = is-apart (drop j b) (drop i a) e in
-      let o = front (drop j b) (p .0) in
-      let t = pair-on o (drop i a) (behind-small a i small) (p .1) in
-      letter-passed (o .letter .0) (o .letter .1) (t .0) (long o) (t .1) (joined-on o)
-
   pub differ : i < length a → j < length b → (getD a i 0 ≡ getD b j 0 → ⊥) → isApart (drop i a) (drop j b) ≡ false → isApart (drop j b) (drop i a) ≡ false → Tells false (SameName a b)
   differ h l n e f =
       fails (λ s. neither (drop i a) (drop j b) (omega (arith, length-drop i a)) (omega (arith, length-drop j b)) (λ k. n (sym (first-at a i) ∙ k ∙ first-at b j)) e f (g .left .0 s))
+
+-- ---- the same with one name for the other
+
+module _ {a b : List ℕ} {i j : ℕ} (g : Going a b i j) where
+  pub second-ends : i < length a → length b ≤ j → Tells false (SameName a b)
+  second-ends h l = fails (longer g h l)
+
+  pub first-ends : length a ≤ i → j < length b → Tells false (SameName a b)
+  first-ends h l = fails (λ s. longer (turned g) l h (sym s))
+
+  pub apart-in-second : ((k : ℕ) → getD a k 0 < 256) → isApart (drop j b) (drop i a) ≡ true → Going a b (i + 2) (j + 3)
+  apart-in-second small e = turned (apart-in-first (turned g) small e)

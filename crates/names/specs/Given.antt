@@ -1,6 +1,7 @@
 -- Words of the contracts that the paper does not have.
 use Prim.Native.Nat.{ℕ, _+_, _*_}
-use mathlib.Core.Bool.{Bool, not, _&&_}
+use mathlib.Core.Path.{_≡_}
+use mathlib.Core.Bool.{Bool, true, false, not, _&&_}
 use mathlib.Core.List.{List, [], _∷_}
 use mathlib.Core.Option.{Option, none, some}
 use Rattle.division.specs.Words.{_=?_}
@@ -27,3 +28,8 @@ pairIn (a ∷ b ∷ bytes) = a * 256 + b
 -- the one begins with a letter and its mark, and the other with the single letter
 abbrev pub isApart : List ℕ → List ℕ → Bool
 isApart a b = not (number (letterIn a) =? 0) && number (letterIn a) =? pairIn b
+
+-- r says whether P holds
+pub record Tells (r : Bool) (P : Type 0) : Type 0 where
+  pub yes : r ≡ true → P
+  pub no : r ≡ false → P → ⊥

@@ -2,12 +2,12 @@
 use Prim.Native.Nat.{ℕ}
 use Prim.Native.Char.{code}
 use mathlib.Core.Path.{_≡_}
-use mathlib.Core.Bool.{Bool, true, false, cond, _&&_}
+use mathlib.Core.Bool.{cond, _&&_}
 use mathlib.Core.List.{List, [], _∷_}
 use mathlib.Core.Option.{Option, none, some}
 use Rattle.division.specs.Words.{_=?_}
 
--- a letter, the mark behind it, and the single letter that they are joined into, which are two bytes each
+-- a letter, of one byte; the mark behind it and the single letter that they are joined into, of two bytes each
 pub record Row : Type 0 where
   pub letter : ℕ
   pub mark : ℕ × ℕ
@@ -30,7 +30,7 @@ table =
     code "c" with (0xCC, 0x81) is (0xC4, 0x87) ∷
     code "C" with (0xCC, 0x81) is (0xC4, 0x86) ∷ []
 
--- the single letter of three bytes, by the first of these rows that has them
+-- the single letter of three bytes, by the first of these rows whose mark and letter they are
 unfoldable pub singleIn : List Row → ℕ → ℕ → ℕ → Option (ℕ × ℕ)
 singleIn [] a m n = none
 singleIn (row ∷ rows) a m n = cond (m =? row .mark .0 && (n =? row .mark .1 && a =? row .letter)) (some (row .single)) (singleIn rows a m n)
@@ -53,8 +53,3 @@ joined (a ∷ m ∷ n ∷ bytes) = put (single a m n) (joined bytes) (a ∷ join
 -- "Names are the same when they are equal after joining"
 abbrev pub SameName : List ℕ → List ℕ → Type 0
 SameName a b = joined a ≡ joined b
-
--- r says whether P holds
-pub record Tells (r : Bool) (P : Type 0) : Type 0 where
-  pub yes : r ≡ true → P
-  pub no : r ≡ false → P → ⊥

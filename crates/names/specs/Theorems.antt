@@ -17,14 +17,14 @@ pub record StandsIn (part name : List ℕ) : Type 0 where
   pub after : List ℕ
   pub is : name ≡ before ++ (part ++ after)
 
--- "a name without a mark (CC 8C, CC 81)"
+-- a name without a mark: neither CC 8C nor CC 81 stands in it
 pub record Unmarked (name : List ℕ) : Type 0 where
   pub no-caron : StandsIn (0xCC ∷ 0x8C ∷ []) name → ⊥
   pub no-acute : StandsIn (0xCC ∷ 0x81 ∷ []) name → ⊥
 
 -- one name made from another by typing letters in their other spelling, one after the other
-pub data Respelled : List ℕ → List ℕ → Type 0 where
-  unchanged : {a b : List ℕ} → a ≡ b → Respelled a b
-  letter : {a b : List ℕ} (row : Row) → List·Memᴰ row table → (before after : List ℕ) → a ≡ before ++ (apart row ++ after) → b ≡ before ++ (together row ++ after) → Respelled a b
-  back : {a b : List ℕ} → Respelled b a → Respelled a b
-  onwards : {a b : List ℕ} (c : List ℕ) → Respelled a c → Respelled c b → Respelled a b
+pub data Respelt : List ℕ → List ℕ → Type 0 where
+  unchanged : {a b : List ℕ} → a ≡ b → Respelt a b
+  letter : {a b : List ℕ} (row : Row) → List·Memᴰ row table → (before after : List ℕ) → a ≡ before ++ (apart row ++ after) → b ≡ before ++ (together row ++ after) → Respelt a b
+  back : {a b : List ℕ} → Respelt b a → Respelt a b
+  onwards : {a b : List ℕ} (c : List ℕ) → Respelt a c → Respelt c b → Respelt a b

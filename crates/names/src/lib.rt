@@ -5,8 +5,8 @@
 ghost use Prim.Native.Nat.{_≤_};
 ghost use mathlib.Core.Path.{_≡_};
 ghost use lib.ListN.{length, drop};
-ghost use Rattle.names.specs.Name.{single, SameName, Tells};
-ghost use Rattle.names.specs.Given.{number, letterIn, pairIn, isApart};
+ghost use Rattle.names.specs.Name.{single, SameName};
+ghost use Rattle.names.specs.Given.{number, letterIn, pairIn, isApart, Tells};
 
 // The single letter of a letter with CC 8C behind it; 0 where there is none.
 fn with_caron(letter: u8) -> u16

@@ -6,7 +6,8 @@ use names::same_name;
 ghost use mathlib.Core.Path.{_≡_};
 ghost use Rattle.catalogue.specs.Line.{readLine};
 ghost use Rattle.catalogue.specs.Parts.{labelPart, namePart, caption};
-ghost use Rattle.names.specs.Name.{SameName, Tells};
+ghost use Rattle.names.specs.Name.{SameName};
+ghost use Rattle.names.specs.Given.{Tells};
 ghost use Rattle.qubathimi_c.specs.Told.{status, carried};
 ghost use Rattle.qubathimi_c.specs.Plain.{source, partOf};
 
