@@ -85,7 +85,8 @@ module _ {bytes : List ℕ} (o : Front bytes) where
       let j : y ≡ g = omega (arith, number-is, shape .second .1, small 1) in
       (omega arith, rw (i, j) (both-pass f g other (omega (arith, shape .first .0)) (shape .second .0)))
 
-  -- one that has neither these nor the letter with its mark. A byte that follows the leading one is kept, since a single letter begins with one that leads
+  -- one that has neither these nor the letter with its mark: a byte behind the leading one that follows it is kept, since a single letter
+  -- begins with one that leads
   follower : (x : ℕ) (other : List ℕ) {rest : List ℕ} → x ≡ f → joined other ≡ g ∷ rest → pairIn (x ∷ other) ≡ f * 256 + g
   unfolding joined
   follower x [] i e = absurd (omega (arith, ap length e))
