@@ -34,6 +34,9 @@ pub enum Question {
     Frame { sheet: u32 },
     SheetAtMetres { scale: u32, e: u64, n: u64 },
     FrameAtMetres { scale: u32, e: u64, n: u64 },
+    OfficialName { sheet: u32, room: usize },
+    OfficialSheet { name: Vec<u8> },
+    OfficialCheck { line: Vec<u8> },
 }
 
 #[derive(Clone, Copy, PartialEq)]
@@ -44,7 +47,7 @@ enum Room {
 }
 
 /// Of each kind of question, in order: the function, how many numbers it gives, and the room that is lent to it.
-const KINDS: [(&str, usize, Room); 25] = [
+const KINDS: [(&str, usize, Room); 28] = [
     ("width, height, rows, columns, first, last", 6, Room::None),
     ("scale_of", 0, Room::None),
     ("locate", 3, Room::None),
@@ -70,12 +73,15 @@ const KINDS: [(&str, usize, Room); 25] = [
     ("frame", 6, Room::None),
     ("sheet_at_metres", 1, Room::None),
     ("frame_at_metres", 6, Room::None),
+    ("official_name", 1, Room::Bytes),
+    ("official_sheet", 1, Room::None),
+    ("official_check", 1, Room::None),
 ];
 
 /// The kinds whose numbers are floats.
 const IN_METRES: [usize; 2] = [23, 25];
 /// The results that there are: 0, and the numbers of refusal.
-const RESULTS: usize = 22;
+const RESULTS: usize = 23;
 
 const GUARD: usize = 8;
 const NONE: u32 = u32::MAX;
@@ -180,6 +186,9 @@ impl Question {
             Question::Frame { .. } => 23,
             Question::SheetAtMetres { .. } => 24,
             Question::FrameAtMetres { .. } => 25,
+            Question::OfficialName { .. } => 26,
+            Question::OfficialSheet { .. } => 27,
+            Question::OfficialCheck { .. } => 28,
         }
     }
 
@@ -233,14 +242,17 @@ impl Question {
                 wide(to, &[*east, *south]);
             }
             Question::Offset { a, b } => numbers(to, &[*a, *b]),
-            Question::Neighbours { sheet, room } | Question::WriteLabel { sheet, room } => numbers(to, &[*sheet, *room as u32]),
+            Question::Neighbours { sheet, room } | Question::WriteLabel { sheet, room } | Question::OfficialName { sheet, room } => {
+                numbers(to, &[*sheet, *room as u32]);
+            }
             Question::Cover { scale, window, room } => {
                 numbers(to, &[*scale]);
                 wide(to, &[window.west, window.east, window.south, window.north]);
                 numbers(to, &[*room as u32]);
             }
             Question::ReadLabel { label } => bytes(to, label),
-            Question::ReadLine { line } | Question::LineParts { line } => bytes(to, line),
+            Question::ReadLine { line } | Question::LineParts { line } | Question::OfficialCheck { line } => bytes(to, line),
+            Question::OfficialSheet { name } => bytes(to, name),
             Question::Caption { line, fallback } => {
                 bytes(to, line);
                 bytes(to, fallback);
@@ -345,6 +357,15 @@ impl Question {
             Question::Frame { sheet } => form.several(division.frame_in_metres(*sheet), mark),
             Question::SheetAtMetres { scale, e, n } => form.value(division.sheet_at_metres(*scale, *e, *n)),
             Question::FrameAtMetres { scale, e, n } => form.several(division.frame_at_metres(*scale, *e, *n), mark),
+            Question::OfficialName { sheet, room } => {
+                // The header: of a sheet that is not listed the count is 0.
+                let answer = division.official_name(*sheet, *room).map(|name| name.unwrap_or(""));
+                form.value(answer.map(|name| name.len() as u64));
+                form.bytes_room(*room, answer.unwrap_or("").as_bytes());
+            }
+            Question::OfficialSheet { name } => form.value(Ok(division.official_sheet(name).unwrap_or(NONE))),
+            // The header: 0 agrees, 1 differs, 2 not listed, which is how they stand in order.
+            Question::OfficialCheck { line } => form.value(division.official_check(line).map(|said| said as u32)),
         }
     }
 }
@@ -400,7 +421,8 @@ fn spell(question: &Question) -> String {
     };
     match question {
         Question::ReadLabel { label } => add("label", label),
-        Question::ReadLine { line } | Question::LineParts { line } => add("line", line),
+        Question::ReadLine { line } | Question::LineParts { line } | Question::OfficialCheck { line } => add("line", line),
+        Question::OfficialSheet { name } => add("name", name),
         Question::Caption { line, fallback } => {
             add("line", line);
             add("fallback", fallback);

@@ -388,6 +388,26 @@ static void answer(void) {
         begin(kind, a);
         put_out(6);
         break;
+    case 26:
+        a = take_u32();
+        bytes = lend_bytes();
+        a = qubathimi_official_name(a, bytes, room, at(0));
+        begin(kind, a);
+        put_out(1);
+        put_bytes_room();
+        break;
+    case 27:
+        one = take_bytes(&m);
+        a = qubathimi_official_sheet(one, m, at(0));
+        begin(kind, a);
+        put_out(1);
+        break;
+    case 28:
+        one = take_bytes(&m);
+        a = qubathimi_official_check(one, m, at(0));
+        begin(kind, a);
+        put_out(1);
+        break;
     default:
         broken = 1;
         return;

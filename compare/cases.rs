@@ -52,6 +52,12 @@
 //!     vary 3 0300d702bc         a sum over what `bytes` tells when each byte in turn is changed to each of the 256
 //!     joined 3 63cc8cc48d       of the bytes, cut behind so many, whether the first part and the rest are the same name:
 //!                               same or different
+//!     known 19 8                the official name of the sheet in room of so many bytes, at most 40: the length written or
+//!                               not listed, the name, how many bytes keep their mark, and what `identify` tells of the
+//!                               bytes written, which are none where it is not listed or refused
+//!     identify 0 566973         the sheet that has the bytes as its official name, or not listed; the number is always 0
+//!     yours 0 35302d3130312d31  what the official names say of the bytes as a catalogue line: agrees, differs or not
+//!                               listed; the number is always 0
 //!
 //! The questions that are stored there try, beside the examples: every border by one before, on and behind it (the area's and the sheets'
 //! edges by a millimetre and in metres by a float, the grids' ends, each scale's first and last sheet, each field's range, each length of a
@@ -59,7 +65,8 @@
 //! their upper bits; the smallest and the largest floats, infinite ones and those that are no number; numbers that are no scale or no
 //! sheet; labels as the sources print them, with each kind of fault at each place, and with strange bytes; lists that are cut, badly
 //! written, too long or wrongly counted; two faults at once, for the order of refusals; names in both spellings and in a mixture, letters
-//! and marks that are not joined, marks that stand alone, twice, apart or broken, and names of unequal length that are the same; and some
+//! and marks that are not joined, marks that stand alone, twice, apart or broken, and names of unequal length that are the same; the
+//! fifteen official names, each with its sheet, with others and with slips, and lines of every scale and with every kind of fault; and some
 //! by chance.
 //!
 //! The lines of compare/examples.txt are document 01's examples and cases of document 02, question and answer written out by hand: these
@@ -91,6 +98,8 @@ const LISTED: usize = 40;
 /// Room for each label, and for each list, in a sum over many.
 const LABEL_ROOM: usize = 20;
 const LIST_ROOM: usize = 200;
+/// The most room for an official name.
+const NAME_ROOM: i64 = 40;
 
 fn stop(what: impl Display) -> ! {
     eprintln!("compare/cases: {what}");
@@ -250,6 +259,17 @@ impl Paper {
         summed((0..256 * bytes.len()).map(changed)).to_string()
     }
 
+    fn known(&self, sheet: u32, room: usize) -> String {
+        let answer = self.0.official_name(sheet, room);
+        let name = answer.unwrap_or(None).unwrap_or("");
+        let length = told(answer.map(|name| name.map_or("not listed".to_string(), |name| name.len().to_string())));
+        format!("{length} {name} kept {} {}", room - name.len(), self.identify(name.as_bytes()))
+    }
+
+    fn identify(&self, name: &[u8]) -> String {
+        self.0.official_sheet(name).map_or("not listed".to_string(), |sheet| sheet.to_string())
+    }
+
     /// The answer to a question; none where it is no question.
     fn answer(&self, question: &str) -> Option<String> {
         let (word, rest) = question.split_once(' ')?;
@@ -260,7 +280,7 @@ impl Paper {
             let [scale, e, n] = rest.split(' ').collect::<Vec<_>>()[..] else { return None };
             return Some(self.under(scale.parse().ok()?, float(e)?, float(n)?));
         }
-        if let "heads" | "bytes" | "vary" | "joined" = word {
+        if let "heads" | "bytes" | "vary" | "joined" | "identify" | "yours" = word {
             let (number, digits) = rest.split_once(' ')?;
             let number = number.parse().ok()?;
             let places = (0..digits.len()).step_by(2);
@@ -269,7 +289,10 @@ impl Paper {
                 "heads" => spaced((0..=bytes.len()).map(|cut| self.read_list(&bytes[..cut], number))),
                 "bytes" => self.bytes(number, &bytes),
                 "vary" => self.vary(number, &bytes),
-                _ => alike(bytes.get(..number)?, &bytes[number..]),
+                "joined" => alike(bytes.get(..number)?, &bytes[number..]),
+                _ if number != 0 => return None,
+                "identify" => self.identify(&bytes),
+                _ => told(self.0.official_check(&bytes)),
             });
         }
         let numbers: Vec<i64> = rest.split(' ').map(|number| number.parse().ok()).collect::<Option<_>>()?;
@@ -301,6 +324,7 @@ impl Paper {
                 self.write_list(&sheets, room as usize)
             }
             ("many", &[first, step, below]) => self.many(first as u32, step as u32, below as usize),
+            ("known", &[sheet, room @ 0..=NAME_ROOM]) => self.known(sheet as u32, room as usize),
             _ => return None,
         })
     }

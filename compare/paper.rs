@@ -803,6 +803,86 @@ pub fn same_name(one: &[u8], other: &[u8]) -> bool {
     joined(one) == joined(other)
 }
 
+// ---- Document 02, d) "The fifteen official names" ----
+
+/// "the 1:250 000 names of source document 000 section 4.1, each under its label". "For 250-105-4 the name column, Prevlaka, decides over
+/// the misprint beside it".
+pub const OFFICIAL: [(&str, &str); 15] = [
+    ("250-101-2", "Zagreb"),
+    ("250-101-3", "Bjelovar"),
+    ("250-101-4", "Beli Manastir"),
+    ("250-102-1", "Rijeka"),
+    ("250-102-2", "Karlovac"),
+    ("250-102-3", "Slavonski Brod"),
+    ("250-102-4", "Osijek"),
+    ("250-103-1", "Otok Lošinj"),
+    ("250-103-2", "Zadar"),
+    ("250-103-3", "Jančag"),
+    ("250-104-2", "Split"),
+    ("250-104-3", "Makarska"),
+    ("250-105-2", "Vis"),
+    ("250-105-3", "Dubrovnik"),
+    ("250-105-4", "Prevlaka"),
+];
+
+/// What "a check of a catalogue line" answers: "agrees, differs or not listed".
+#[derive(Clone, Copy, Debug, PartialEq, Eq)]
+pub enum Checked {
+    Agrees,
+    Differs,
+    NotListed,
+}
+
+impl fmt::Display for Checked {
+    fn fmt(&self, to: &mut fmt::Formatter) -> fmt::Result {
+        to.write_str(match self {
+            Checked::Agrees => "agrees",
+            Checked::Differs => "differs",
+            Checked::NotListed => "not listed",
+        })
+    }
+}
+
+/// "22, not a 1:250 000 sheet, after 3".
+fn only_1_250_000(sheet: u32) -> Answer<()> {
+    if scale_of(sheet)? == 1 { Ok(()) } else { refuse(22) }
+}
+
+/// The name that stands under a label.
+fn name_under(label: &[u8]) -> Option<&'static str> {
+    OFFICIAL.iter().find(|(listed, _)| listed.as_bytes() == label).map(|&(_, name)| name)
+}
+
+impl Division {
+    /// "sheet to name", with lent room for so many bytes: 3, 22, 10. None for "A sheet without a name in that list": that is an answer, and
+    /// needs no room.
+    pub fn official_name(&self, sheet: u32, room: usize) -> Answer<Option<&'static str>> {
+        only_1_250_000(sheet)?;
+        match name_under(self.spell(sheet).text()) {
+            Some(name) if name.len() > room => too_short(name.len()),
+            listed => Ok(listed),
+        }
+    }
+
+    /// "name to sheet by the comparison of c)", of any bytes; none for "a name it doesn't hold".
+    pub fn official_sheet(&self, name: &[u8]) -> Option<u32> {
+        let (label, _) = OFFICIAL.iter().find(|(_, listed)| same_name(listed.as_bytes(), name))?;
+        self.spelt(label.as_bytes())
+    }
+
+    /// What is said of a line: 4, 19, 20, 21, 5, 17, 16, 22. "A line is not listed exactly when its sheet has no name there; at a listed
+    /// sheet any other name, or none, differs": a line without a name has the empty one, which is none of the fifteen.
+    pub fn official_check(&self, line: &[u8]) -> Answer<Checked> {
+        let Line { sheet, label, name } = self.read_line(line);
+        only_1_250_000(sheet?)?;
+        Ok(match name_under(&line[label]) {
+            None => Checked::NotListed,
+            Some(listed) if same_name(listed.as_bytes(), &line[name]) => Checked::Agrees,
+            Some(_) => Checked::Differs,
+        })
+    }
+}
+
 // ---- "Table of examples" and "Slips that look right", with readings of open points ----
 
 #[cfg(test)]
@@ -1302,6 +1382,138 @@ mod tests {
         for (count, fine) in [(16, true), (17, false)] {
             let line = format!("50-109-11 {}", "c\u{30C}".repeat(count));
             assert_eq!(division().read_line(line.as_bytes()).sheet.is_ok(), fine);
+        }
+    }
+
+    // ---- Document 02, d) ----
+
+    fn check(line: &str) -> Answer<Checked> {
+        division().official_check(line.as_bytes())
+    }
+
+    fn sheet_named(name: &str) -> Option<u32> {
+        division().official_sheet(name.as_bytes())
+    }
+
+    /// The sheets of the list, and those of the scale that are not in it.
+    const LISTED: [u32; 15] = [1, 2, 3, 4, 5, 6, 7, 8, 9, 10, 13, 14, 17, 18, 19];
+    const UNLISTED: [&str; 9] = [
+        "250-101-1", "250-103-4", "250-104-1", "250-104-4", "250-105-1", "250-106-1", "250-106-2", "250-106-3", "250-106-4",
+    ];
+
+    /// A name with its letters and marks apart.
+    fn marked(name: &str) -> String {
+        SINGLE.iter().fold(name.to_string(), |name, (letter, mark, single)| name.replace(*single, &format!("{letter}{mark}")))
+    }
+
+    #[test]
+    fn official_names() {
+        for ((label, name), sheet) in OFFICIAL.into_iter().zip(LISTED) {
+            assert_eq!(read(label), Ok(sheet));
+            for room in 0..=20 {
+                let answer = if room < name.len() { too_short(name.len()) } else { Ok(Some(name)) };
+                assert_eq!(division().official_name(sheet, room), answer, "{name}");
+            }
+            for typed in [name.to_string(), marked(name)] {
+                assert_eq!(sheet_named(&typed), Some(sheet), "{typed}");
+                assert_eq!(check(&format!("{label} {typed}")), Ok(Checked::Agrees), "{typed}");
+            }
+            assert_eq!(check(label), Ok(Checked::Differs));
+        }
+        assert_eq!(marked("Jančag"), "Janc\u{30C}ag");
+        assert_eq!(marked("Otok Lošinj"), "Otok Los\u{30C}inj");
+        assert_eq!(OFFICIAL.into_iter().filter(|(_, name)| marked(name) != *name).count(), 2);
+        assert_eq!(OFFICIAL.iter().map(|(_, name)| name.len()).max(), Some(14));
+    }
+
+    /// "No two of the fifteen names are the same and no label occurs twice; show it over the whole list."
+    #[test]
+    fn no_two_the_same() {
+        for (place, (label, name)) in OFFICIAL.iter().enumerate() {
+            for (other_label, other_name) in &OFFICIAL[..place] {
+                assert!(label != other_label && !same_name(name.as_bytes(), other_name.as_bytes()), "{label} {other_label}");
+            }
+        }
+    }
+
+    /// "A sheet without a name in that list, or a name it doesn't hold, answers not listed."
+    #[test]
+    fn not_listed() {
+        for label in UNLISTED {
+            let sheet = read(label).expect("a sheet");
+            assert!(sheet < 24 && !LISTED.contains(&sheet));
+            for room in [0, 1, 20] {
+                assert_eq!(division().official_name(sheet, room), Ok(None));
+            }
+            assert_eq!(check(label), Ok(Checked::NotListed));
+            for (_, name) in OFFICIAL.into_iter().chain([("", "Prevlasta"), ("", "Rab")]) {
+                assert_eq!(check(&format!("{label} {name}")), Ok(Checked::NotListed));
+            }
+        }
+        let names = [
+            "", "Prevlasta", "Prevaska", "prevlaka", "PREVLAKA", "Prevlak", "Prevlaka ", " Prevlaka", "Prevlaka\0", "Jancag", "Janćag",
+            "Janc\u{301}ag", "Janc\u{30C}\u{30C}ag", "JANČAG", "Otok Losinj", "Otok Los\u{301}inj", "Otok  Lošinj", "Lošinj", "Viš",
+            "Vis\u{30C}", "Karlovac\u{30C}", "250-105-4", "250-105-4 Prevlaka", "Čakovec", "Rab",
+        ];
+        for name in names {
+            assert_eq!(sheet_named(name), None, "{name}");
+        }
+        for name in [&b"Jan\xC4ag"[..], b"Jan\x8Dag", b"Janc\xCCag", b"Janc\x8Cag", b"Karlovac\xCC", &[b'V'; 100_000]] {
+            assert_eq!(division().official_sheet(name), None);
+        }
+    }
+
+    /// "at a listed sheet any other name, or none, differs", also that of another sheet. The source's own lines have one misprint.
+    #[test]
+    fn names_that_differ() {
+        for (label, name) in OFFICIAL {
+            let others = OFFICIAL.into_iter().map(|(_, other)| other).filter(|other| *other != name);
+            for other in others.chain(["Prevlasta", "Rab", "Jancag", "Otok Lośinj", "prevlaka"]) {
+                assert_eq!(check(&format!("{label} {other}")), Ok(Checked::Differs));
+            }
+        }
+        let printed: Vec<&str> = include_str!("../samples/tk250.txt").lines().collect();
+        let other: Vec<&str> = printed.iter().copied().filter(|line| check(line) != Ok(Checked::Agrees)).collect();
+        assert_eq!((printed.len(), other), (15, vec!["250-105-4 Prevlasta"]));
+        assert_eq!(check("250-105-4 Prevlasta"), Ok(Checked::Differs));
+    }
+
+    /// "Refusals: 22, not a 1:250 000 sheet, after 3, and for a line after 16; a sheet's name is written into lent room, 10 last."
+    #[test]
+    fn not_1_250_000() {
+        for room in [0, 1, 20] {
+            for scale in &SCALES[1..] {
+                for sheet in [scale.first, scale.first + scale.sheets - 1] {
+                    assert_eq!(division().official_name(sheet, room), refuse(22));
+                }
+            }
+            for sheet in [LAST_SHEET + 1, LAST_SHEET + 20, u32::MAX] {
+                assert_eq!(division().official_name(sheet, room), refuse(3));
+            }
+        }
+        for scale in &SCALES[1..] {
+            let label = label_of(scale.first);
+            let detailed = scale.first >= SCALES[6].first;
+            assert_eq!(check(&label), refuse(22));
+            assert_eq!(check(&format!("{label} Zagreb")), refuse(if detailed { 17 } else { 22 }));
+            for name in ["", " Zagreb", "Zagreb ", "Zagreb\r", &"n".repeat(49)] {
+                assert_eq!(check(&format!("{label} {name}")), refuse(if detailed { 17 } else { 16 }));
+            }
+        }
+        // At a sheet of the scale 16 stands before all that the list says.
+        for label in ["250-105-4", "250-105-1"] {
+            for name in ["", " Prevlaka", "Prevlaka ", "Prevlaka\r", &"n".repeat(49)] {
+                assert_eq!(check(&format!("{label} {name}")), refuse(16));
+            }
+        }
+        let faults = [
+            ("", 4, 0), ("250-105-4-1234567", 4, 16), ("250-105-x", 19, 8), ("250-0105-4", 20, 4), ("251-105-4", 21, 0),
+            ("250-107-4", 5, 4), ("250-105-5", 5, 8), ("100-116-1", 5, 4),
+        ];
+        for (label, number, place) in faults {
+            for tail in ["", " ", " Prevlaka", "  Prevlaka"] {
+                assert_eq!(check(&format!("{label}{tail}")), refuse_at(number, place));
+            }
         }
     }
 }

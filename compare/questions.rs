@@ -1,7 +1,9 @@
 // What is asked: from every kind of question the plain cases, the borders by one, the extremes, and what is damaged.
 
 use crate::ask::{Asker, Question};
-use crate::paper::{self, Division, Frame, Made, Refusal, AREA_EAST, AREA_NORTH, AREA_SOUTH, AREA_WEST, JOINED, LAST_SHEET, MOST, SCALES};
+use crate::paper::{
+    self, Division, Frame, Made, Refusal, AREA_EAST, AREA_NORTH, AREA_SOUTH, AREA_WEST, JOINED, LAST_SHEET, MOST, OFFICIAL, SCALES,
+};
 
 /// Numbers by chance, the same for the same seed.
 struct Chance(u64);
@@ -176,6 +178,24 @@ const NEARLY_JOINED: [&[u8]; 30] = [
 /// Two letters that are joined and one that is not, the bytes of the marks, and those of a single letter.
 const BYTES_OF_NAMES: &[u8] = b"czd\xCC\x8C\x81\xC4\x8D";
 
+/// What is no official name: none at all, the sources' misprints, names of other scales, parts of the fifteen, two at once, letters without
+/// their marks, with another mark or in capitals, and what else a line has.
+const OTHER_NAMES: [&str; 40] = [
+    "", "Prevlasta", "Prevaska", "Čakovec", "Koprivnica", "Požega", "Županja", "Gospic", "Gospić", "Krk", "Rab", "Pula", "Zagreb (sjever)",
+    "Dubrovnik (jug)", "Mali Lošinj", "Lošinj", "Otok", "Beli", "Manastir", "Slavonski", "Brod", "BeliManastir", "Slavonski-Brod",
+    "VisVis", "Zagreb Zadar", "Split, Vis", "Jancag", "Janćag", "JANČAG", "jančag", "Otok Losinj", "Otok Lośinj", "Otok Lozinj",
+    "OTOK LOŠINJ", "Žagreb", "Šplit", "Karlovač", "250-105-4", "250-105-4 Prevlaka", "19",
+];
+
+/// First numbers that are 250 when they lose their upper bits, and others.
+const NEARLY_250: [&str; 9] = ["506", "65786", "4294967546", "0250", "2500", "25", "100", "50", "2"];
+
+/// What is put into a name at each place, and in place of each of its bytes.
+const FEW_BYTES: &[u8] = b"\0 c\xCC\x8C";
+
+/// The sheets of scale 1.
+const OF_SCALE_1: std::ops::Range<u32> = 0..SCALES[0].sheets;
+
 /// All texts over some letters, of no letter up to so many.
 fn texts(letters: &[u8], most: u32) -> impl Iterator<Item = Vec<u8>> + '_ {
     let text = move |length: u32, choice: usize| (0..length).map(|k| letters[choice / letters.len().pow(k) % letters.len()]).collect();
@@ -212,6 +232,57 @@ fn damaged(label: &[u8]) -> Vec<Vec<u8>> {
     all
 }
 
+/// A name, and the same with its letters and marks apart where it has single letters that are joined.
+fn spellings(name: &str) -> Vec<String> {
+    let text = |bytes| std::str::from_utf8(bytes).expect("a letter");
+    let apart = JOINED.iter().fold(name.to_string(), |name, (marked, single)| name.replace(text(single), text(marked)));
+    let mut both = vec![name.to_string(), apart];
+    both.dedup();
+    both
+}
+
+/// Every name that comes of another by one slip: a byte with a bit changed, changed to each of some, dropped, doubled or changed with the
+/// next one, each of some put in, and every beginning and end.
+fn misspelt(name: &[u8], bytes: &[u8]) -> Vec<Vec<u8>> {
+    let with = |from: usize, to: usize, other: &[u8]| [&name[..from], other, &name[to..]].concat();
+    let mut all = Vec::new();
+    for place in 0..=name.len() {
+        for &byte in bytes {
+            all.push(with(place, place, &[byte]));
+        }
+        if let [byte, ref behind @ ..] = name[place..] {
+            for other in (0..8).map(|bit| byte ^ 1 << bit).chain(bytes.iter().copied()) {
+                all.push(with(place, place + 1, &[other]));
+            }
+            all.push(with(place, place + 1, &[]));
+            all.push(with(place, place + 1, &[byte, byte]));
+            if let [next, ..] = *behind {
+                all.push(with(place, place + 2, &[next, byte]));
+            }
+            all.push(name[..place].to_vec());
+            all.push(behind.to_vec());
+        }
+    }
+    all
+}
+
+/// Every name that comes of another by a letter with a mark, in either spelling, or by what looks like one: in place of each of its
+/// letters, and put in between them, in front and at the end.
+fn with_marks(name: &str) -> Vec<Vec<u8>> {
+    let letters: Vec<&[u8]> = JOINED.iter().flat_map(|(marked, single)| [&marked[..], &single[..]]).chain(NEARLY_JOINED).collect();
+    let mut all = Vec::new();
+    let ends = name.char_indices().map(|(from, letter)| (from, from + letter.len_utf8()));
+    for (from, to) in ends.chain([(name.len(), name.len())]) {
+        for letter in &letters {
+            all.push([&name.as_bytes()[..from], letter, &name.as_bytes()[to..]].concat());
+            if from < to {
+                all.push([&name.as_bytes()[..from], letter, &name.as_bytes()[from..]].concat());
+            }
+        }
+    }
+    all
+}
+
 struct Asking<'a, 'b> {
     division: &'a Division,
     chance: Chance,
@@ -236,6 +307,10 @@ pub fn ask_all(division: &Division, asker: &mut Asker, seed: u64, long: bool) {
     asking.about_16_bytes();
     asking.short_names(if long { 4 } else { 3 });
     asking.short_names_joined(if long { 6 } else { 4 });
+    asking.official_sheets(if long { 200 } else { 20 });
+    asking.official_names(long);
+    asking.nearly_vis(if long { 7 } else { 4 });
+    asking.official_lines();
     asking.short_lists();
     asking.long_sets();
     if long {
@@ -269,6 +344,7 @@ pub fn ask_all(division: &Division, asker: &mut Asker, seed: u64, long: bool) {
                 asking.about_names();
             }
             for _ in 0..200 {
+                asking.about_official_names();
                 asking.about_a_set();
                 asking.about_a_list();
             }
@@ -380,8 +456,8 @@ impl Asking<'_, '_> {
         }
     }
 
-    /// Every sheet, its neighbours, its label, and the ways back: by the place, the corner points, also in metres, the parent and the
-    /// label.
+    /// Every sheet, its neighbours, its label, what the list of official names says of it, and the ways back: by the place, the corner
+    /// points, also in metres, the parent and the label.
     fn each_sheet(&mut self) {
         for sheet in 0..=LAST_SHEET {
             self.ask_of_sheet(sheet);
@@ -395,6 +471,8 @@ impl Asking<'_, '_> {
             self.ask_back_in_metres(sheet);
             let label = self.division.write_label(sheet, 16).expect("a sheet");
             self.ask(Question::ReadLabel { label: label.text().to_vec() });
+            self.ask(Question::OfficialName { sheet, room: 16 });
+            self.ask(Question::OfficialCheck { line: label.text().to_vec() });
             if let Ok(parent) = self.division.parent(sheet) {
                 let number = self.division.number(sheet);
                 self.ask(Question::Child { sheet: parent, scale: place.scale, number });
@@ -1164,23 +1242,28 @@ impl Asking<'_, '_> {
         other
     }
 
+    /// Puts a slip into a name, or makes it another; in one case of three it stays.
+    fn misspell(&mut self, name: &mut Vec<u8>) {
+        let end = name.len();
+        let place = self.chance.below(end.max(1));
+        match self.chance.below(16) {
+            0 => name.push(self.chance.next() as u8),
+            1 => name.extend(self.chance.of(&NEARLY_JOINED)),
+            2 => name.truncate(end.saturating_sub(1 + self.chance.below(3))),
+            3 => drop(name.splice(place..place, self.chance.of(&NEARLY_JOINED).iter().copied())),
+            4 => *name = self.name(),
+            5 | 6 if end > 0 => name[place] ^= 1 << self.chance.below(8),
+            7 | 8 if end > 0 => name[place] = self.chance.of(BYTES_OF_NAMES),
+            9 if end > 0 => name[end - 1] = name[end - 1].wrapping_add(1),
+            10 if end > 0 => drop(name.remove(place)),
+            _ => {}
+        }
+    }
+
     fn about_names(&mut self) {
         let a = if self.chance.one_in(3) { self.name() } else { self.name_of_letters() };
         let mut b = self.respelt(&a);
-        let end = b.len();
-        let place = self.chance.below(end.max(1));
-        match self.chance.below(16) {
-            0 => b.push(self.chance.next() as u8),
-            1 => b.extend(self.chance.of(&NEARLY_JOINED)),
-            2 => b.truncate(end.saturating_sub(1 + self.chance.below(3))),
-            3 => drop(b.splice(place..place, self.chance.of(&NEARLY_JOINED).iter().copied())),
-            4 => b = self.name(),
-            5 | 6 if end > 0 => b[place] ^= 1 << self.chance.below(8),
-            7 | 8 if end > 0 => b[place] = self.chance.of(BYTES_OF_NAMES),
-            9 if end > 0 => b[end - 1] = b[end - 1].wrapping_add(1),
-            10 if end > 0 => drop(b.remove(place)),
-            _ => {}
-        }
+        self.misspell(&mut b);
         let (a, b) = if self.chance.one_in(2) { (a, b) } else { (b, a) };
         self.ask(Question::SameName { a, b });
     }
@@ -1210,6 +1293,188 @@ impl Asking<'_, '_> {
                 self.ask(Question::SameName { a: other, b: one.clone() });
             }
         }
+    }
+
+    // ---- Official names ----
+
+    /// The sheets of scale 1, in room of each length up to so many bytes; the ends of all scales, numbers that are no sheet, and those that
+    /// are a sheet of scale 1 when they lose their upper bits.
+    fn official_sheets(&mut self, most: usize) {
+        for sheet in OF_SCALE_1 {
+            for room in 0..=most {
+                self.ask(Question::OfficialName { sheet, room });
+            }
+        }
+        let ends = SCALES.iter().flat_map(|facts| [facts.first, facts.first + 1, facts.first + facts.sheets - 1]);
+        let beyond = OF_SCALE_1.flat_map(|sheet| (5..32).map(move |bit| sheet | 1 << bit));
+        for sheet in ends.chain(EXTREME_U32).chain(beyond) {
+            for room in [0, 1, 20] {
+                self.ask(Question::OfficialName { sheet, room });
+            }
+        }
+    }
+
+    /// What is said of a line with a name.
+    fn ask_to_check(&mut self, label: &[u8], name: &[u8]) {
+        self.ask(Question::OfficialCheck { line: [label, b" ", name].concat() });
+    }
+
+    /// The sheet of a name, and what is said of the name in a line of each of some sheets.
+    fn ask_of_name(&mut self, name: &[u8], sheets: impl IntoIterator<Item = u32>) {
+        self.ask(Question::OfficialSheet { name: name.to_vec() });
+        for sheet in sheets {
+            self.ask_to_check(&self.label_of(sheet), name);
+        }
+    }
+
+    /// A sheet, and any of scale 1.
+    fn with_another(&mut self, sheet: u32) -> [u32; 2] {
+        [sheet, self.chance.below(OF_SCALE_1.len()) as u32]
+    }
+
+    /// Every official name in its spellings, with every slip, and every name that is none, at each sheet of scale 1; at its own sheet and
+    /// at another one also with letters and marks that it does not have, and with more behind it.
+    fn official_names(&mut self, long: bool) {
+        let bytes: Vec<u8> = if long { (0..=255).collect() } else { FEW_BYTES.to_vec() };
+        for (label, name) in OFFICIAL {
+            let own = self.division.read_label(label.as_bytes()).expect("a sheet");
+            for name in spellings(name) {
+                self.ask_of_name(name.as_bytes(), OF_SCALE_1);
+                for other in misspelt(name.as_bytes(), &bytes) {
+                    self.ask_of_name(&other, OF_SCALE_1);
+                }
+                for other in with_marks(&name) {
+                    let sheets = self.with_another(own);
+                    self.ask_of_name(&other, sheets);
+                }
+                // Each letter that has C4 or C5 for its first byte, in place of the one that has, or of the mark.
+                for (place, _) in name.char_indices().filter(|(_, letter)| !letter.is_ascii()) {
+                    for letter in '\u{100}'..='\u{17F}' {
+                        let other = [&name[..place], &letter.to_string(), &name[place + 2..]].concat();
+                        let sheets = self.with_another(own);
+                        self.ask_of_name(other.as_bytes(), sheets);
+                    }
+                }
+                for other in [name.to_lowercase(), name.to_uppercase()] {
+                    self.ask_of_name(other.as_bytes(), [own]);
+                }
+                // Filled up to 8, 16 and 48 bytes, beyond what a line may have, and by so much that the length looks right when it loses
+                // its upper bits.
+                for byte in *b"\0 x\xCC" {
+                    for end in [8, 16, 48, name.len() + 40, name.len() + 256] {
+                        let mut other = name.clone().into_bytes();
+                        other.resize(end.max(name.len() + 1), byte);
+                        let sheets = self.with_another(own);
+                        self.ask_of_name(&other, sheets);
+                    }
+                }
+            }
+        }
+        for name in OTHER_NAMES.into_iter().flat_map(spellings) {
+            self.ask_of_name(name.as_bytes(), OF_SCALE_1);
+        }
+        for more in [65_536, 131_072] {
+            self.ask_of_name(&[b"Vis", &vec![0; more][..]].concat(), [17]);
+        }
+    }
+
+    /// All names of a few bytes over those of Vis and of a mark.
+    fn nearly_vis(&mut self, most: u32) {
+        for name in texts(b"Vis\xCC\x8C", most) {
+            let sheets = self.with_another(17);
+            self.ask_of_name(&name, sheets);
+        }
+    }
+
+    /// Lines without a name, with one, and with a bad one, at sheets of all scales and behind labels that are damaged.
+    fn official_lines(&mut self) {
+        for sheet in OF_SCALE_1 {
+            let label = self.label_of(sheet);
+            let own = self.division.official_name(sheet, MOST).expect("of scale 1").unwrap_or("Zagreb");
+            for tail in TAILS {
+                self.ask(Question::OfficialCheck { line: [&label, tail.as_bytes()].concat() });
+            }
+            for byte in 0..=255 {
+                self.ask_to_check(&label, &[own.as_bytes(), &[byte]].concat());
+                self.ask_to_check(&label, &[&[byte], own.as_bytes()].concat());
+                self.ask(Question::OfficialCheck { line: [&label, &[byte][..], own.as_bytes()].concat() });
+            }
+            for label in damaged(&label) {
+                self.ask_to_check(&label, own.as_bytes());
+                self.ask_to_check(&label, &[own.as_bytes(), b" "].concat());
+                self.ask(Question::OfficialCheck { line: label });
+            }
+            for first in NEARLY_250 {
+                let label = [first.as_bytes(), &label[3..]].concat();
+                self.ask_to_check(&label, own.as_bytes());
+                self.ask(Question::OfficialCheck { line: label });
+            }
+        }
+        for (row, column) in FIELDS.iter().flat_map(|row| FIELDS.map(|column| (row, column))) {
+            let (_, name) = self.chance.of(&OFFICIAL);
+            self.ask_to_check(format!("250-{row}-{column}").as_bytes(), name.as_bytes());
+        }
+        for (scale, facts) in (2..).zip(&SCALES[1..]) {
+            for sheet in [facts.first, facts.first + facts.sheets - 1, self.sheet_of(scale), self.sheet_of(scale)] {
+                let label = self.label_of(sheet);
+                for tail in TAILS {
+                    self.ask(Question::OfficialCheck { line: [&label, tail.as_bytes()].concat() });
+                }
+                for (_, name) in OFFICIAL {
+                    self.ask_to_check(&label, name.as_bytes());
+                    self.ask_to_check(&label, &[name.as_bytes(), b" "].concat());
+                }
+            }
+        }
+    }
+
+    fn about_official_names(&mut self) {
+        let sheet = if self.chance.one_in(4) { self.sheet() } else { self.chance.below(OF_SCALE_1.len()) as u32 };
+        let needed = match self.division.official_name(sheet, 0) {
+            Err(Refusal { number: 10, carries: Some(needed) }) => needed as usize,
+            _ => 8,
+        };
+        let room = match self.chance.below(10) {
+            0 => 0,
+            1 => needed - 1,
+            2 => self.chance.below(needed),
+            3 => needed + 1,
+            4 => needed + self.chance.below(60),
+            _ => needed,
+        };
+        self.ask(Question::OfficialName { sheet, room });
+        let (label, name) = self.chance.of(&OFFICIAL);
+        let mut label = label.as_bytes().to_vec();
+        let mut name = match self.chance.below(8) {
+            0 => self.chance.of(&OTHER_NAMES).as_bytes().to_vec(),
+            1 => self.name_of_letters(),
+            _ => self.respelt(name.as_bytes()),
+        };
+        if self.chance.one_in(3) {
+            self.misspell(&mut name);
+        }
+        match self.chance.below(12) {
+            0 => label = self.label(),
+            1 => self.damage_label(&mut label),
+            2 => {
+                let sheet = self.good_sheet();
+                label = self.label_of(sheet);
+            }
+            3..=5 => {
+                let sheet = self.chance.below(OF_SCALE_1.len()) as u32;
+                label = self.label_of(sheet);
+            }
+            _ => {}
+        }
+        match self.chance.below(12) {
+            0 => self.ask(Question::OfficialCheck { line: label }),
+            1 => {
+                let line = self.line();
+                self.ask(Question::OfficialCheck { line });
+            }
+            _ => self.ask_to_check(&label, &name),
+        }
+        self.ask(Question::OfficialSheet { name });
     }
 
     // ---- Shelf lists ----

@@ -1,4 +1,5 @@
-/* Qubathimi for C and for any language that calls C: map sheets of nine scales, their frames, labels, catalogue lines and shelf lists.
+/* Qubathimi for C and for any language that calls C: map sheets of nine scales, their frames, labels, catalogue lines, official names
+ * and shelf lists.
  *
  * `rt staticlib qubathimi_c` proves the functions and writes target/staticlib/libqubathimi_c.a, for x86-64 Linux; link it with a program
  * that includes this header. Of the C library it calls memcpy and nothing else. It allocates nothing, needs no setting up and keeps
@@ -7,7 +8,7 @@
  *
  * The convention. Seven functions cannot refuse and have their answer as the result: qubathimi_width, _height, _rows, _columns, _first,
  * _last and _scale_of; and so has qubathimi_same_name, which is true or false. For all others:
- *  - The result is 0 where the function answers, and otherwise the number of the refusal, 1 to 21 (enum qubathimi_refusal). Where several
+ *  - The result is 0 where the function answers, and otherwise the number of the refusal, 1 to 22 (enum qubathimi_refusal). Where several
  *    are due, the first in the order given at the function is the one.
  *  - An answer that is one number goes to *value, and so does the count of what is laid into lent room. *value is written in every
  *    case: of a refusal it is what the refusal carries, the room needed with 10, a place in the label with 4, 5, 19, 20 and 21, and
@@ -46,30 +47,36 @@ extern "C" {
 /* where a caption lies */
 #define QUBATHIMI_IN_LINE 0
 #define QUBATHIMI_IN_FALLBACK 1
+/* the bytes of the longest official name, and what is said of the name in a line */
+#define QUBATHIMI_LONGEST_OFFICIAL_NAME 14
+#define QUBATHIMI_AGREES 0
+#define QUBATHIMI_DIFFERS 1
+#define QUBATHIMI_NOT_LISTED 2
 
 /* Document 01, "Numbers of refusal", and document 02 for 4, 5 and those from 18 on; docs/REFUSALS.md says what to look at. */
 enum qubathimi_refusal {
-    QUBATHIMI_POINT_OUTSIDE = 1,  /* point outside the area */
-    QUBATHIMI_NO_SCALE = 2,       /* scale not 1 to 9 */
-    QUBATHIMI_NO_SHEET = 3,       /* sheet number above 7 953 173 */
-    QUBATHIMI_LABEL_LENGTH = 4,   /* label empty, at 0, or over 16 bytes, at 16; carries that place */
-    QUBATHIMI_FIELD_RANGE = 5,    /* a label field out of range; carries where the first such field begins */
-    QUBATHIMI_NO_SUCH = 6,        /* no such parent or child, step or place off the grid, offset across scales */
-    QUBATHIMI_WINDOW_ORDER = 7,   /* window with east not above west or north not above south */
-    QUBATHIMI_WINDOW_OUTSIDE = 8, /* window reaching outside the area */
-    QUBATHIMI_TOO_MANY = 9,       /* more than 4 096 sheets */
-    QUBATHIMI_ROOM = 10,          /* lent room too short; carries the room needed */
-    QUBATHIMI_ENDS_EARLY = 11,    /* list ends early */
-    QUBATHIMI_BAD_NUMBER = 12,    /* list number badly written, or count over 4 096 */
-    QUBATHIMI_PAST_LAST = 13,     /* list runs past the last sheet */
-    QUBATHIMI_MORE_BYTES = 14,    /* bytes after the list's end */
-    QUBATHIMI_NOT_RISING = 15,    /* sheets to be written not strictly rising */
-    QUBATHIMI_NAME_FORM = 16,     /* name badly formed */
-    QUBATHIMI_NAME_SCALE = 17,    /* name at scale 7, 8 or 9 */
-    QUBATHIMI_NO_NUMBER = 18,     /* a value in metres that is infinite or no number */
-    QUBATHIMI_STRANGE_BYTE = 19,  /* a byte of a label that is neither digit nor hyphen; carries the place of the first */
-    QUBATHIMI_FIELD_FORM = 20,    /* an empty label field, or one with a leading zero; carries where the first such field begins */
-    QUBATHIMI_NAMES_NO_SCALE = 21 /* a label's first number or its count of fields unknown; carries 0 */
+    QUBATHIMI_POINT_OUTSIDE = 1,   /* point outside the area */
+    QUBATHIMI_NO_SCALE = 2,        /* scale not 1 to 9 */
+    QUBATHIMI_NO_SHEET = 3,        /* sheet number above 7 953 173 */
+    QUBATHIMI_LABEL_LENGTH = 4,    /* label empty, at 0, or over 16 bytes, at 16; carries that place */
+    QUBATHIMI_FIELD_RANGE = 5,     /* a label field out of range; carries where the first such field begins */
+    QUBATHIMI_NO_SUCH = 6,         /* no such parent or child, step or place off the grid, offset across scales */
+    QUBATHIMI_WINDOW_ORDER = 7,    /* window with east not above west or north not above south */
+    QUBATHIMI_WINDOW_OUTSIDE = 8,  /* window reaching outside the area */
+    QUBATHIMI_TOO_MANY = 9,        /* more than 4 096 sheets */
+    QUBATHIMI_ROOM = 10,           /* lent room too short; carries the room needed */
+    QUBATHIMI_ENDS_EARLY = 11,     /* list ends early */
+    QUBATHIMI_BAD_NUMBER = 12,     /* list number badly written, or count over 4 096 */
+    QUBATHIMI_PAST_LAST = 13,      /* list runs past the last sheet */
+    QUBATHIMI_MORE_BYTES = 14,     /* bytes after the list's end */
+    QUBATHIMI_NOT_RISING = 15,     /* sheets to be written not strictly rising */
+    QUBATHIMI_NAME_FORM = 16,      /* name badly formed */
+    QUBATHIMI_NAME_SCALE = 17,     /* name at scale 7, 8 or 9 */
+    QUBATHIMI_NO_NUMBER = 18,      /* a value in metres that is infinite or no number */
+    QUBATHIMI_STRANGE_BYTE = 19,   /* a byte of a label that is neither digit nor hyphen; carries the place of the first */
+    QUBATHIMI_FIELD_FORM = 20,     /* an empty label field, or one with a leading zero; carries where the first such field begins */
+    QUBATHIMI_NAMES_NO_SCALE = 21, /* a label's first number or its count of fields unknown; carries 0 */
+    QUBATHIMI_NOT_250_000 = 22     /* not a 1:250 000 sheet */
 };
 
 /* ---- Scales. Of a number that is no scale, not 1 to 9, each of these is 0. ---- */
@@ -183,6 +190,21 @@ uint32_t qubathimi_caption(const uint8_t *line, size_t line_length, const uint8_
  * C with CC 81 into C4 87 and C4 86. Nothing else is joined, and nothing is written: names stay the bytes that they are. Any bytes may be
  * compared, of any lengths; nothing is refused. examples/same.c compares two catalogues by it. */
 bool qubathimi_same_name(const uint8_t *a, size_t a_length, const uint8_t *b, size_t b_length);
+
+/* ---- Official names: the fifteen of the 1:250 000 sheets, in UTF-8. Nine of the 24 sheets have none: "not listed" is an answer ---- */
+
+/* The official name of a 1:250 000 sheet, laid into `room`, with no zero byte behind it. *value is the count of its bytes; it is 0 where the
+ * sheet is not listed, for which no room is needed, and of no other. Refusals: 3; 22 for a sheet of another scale; 10. */
+uint32_t qubathimi_official_name(uint32_t sheet, uint8_t *room, size_t length, uint64_t *value);
+
+/* The sheet that has a name, whichever kind of computer it was typed on: as qubathimi_same_name compares. *value is QUBATHIMI_NONE where no
+ * sheet has it. Any bytes may be asked, of any length; the result is always 0. */
+uint32_t qubathimi_official_sheet(const uint8_t *name, size_t length, uint64_t *value);
+
+/* What the list says of the name in a catalogue line. *value is QUBATHIMI_AGREES where the line has its sheet's official name, in either
+ * spelling; QUBATHIMI_DIFFERS where it has any other name, also that of another sheet, or none; and QUBATHIMI_NOT_LISTED where its sheet has
+ * no official name, whatever the line has. Refusals: those of qubathimi_read_line, with their places; then 22 for a sheet of another scale. */
+uint32_t qubathimi_official_check(const uint8_t *line, size_t length, uint64_t *value);
 
 /* ---- Shelf lists ---- */
 

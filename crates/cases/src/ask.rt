@@ -1,4 +1,5 @@
 // The lines of the input, and the kinds of question.
+use crate::known;
 use crate::labels;
 use crate::lists;
 use crate::metres;
@@ -66,6 +67,9 @@ fn requested(kind: u8, s: &[u8]) {
         b'q' => metres::quad(s),
         b'u' => metres::under(s),
         b'j' => spelt::alike(s),
+        b'k' => known::known(s),
+        b'i' => known::identify(s),
+        b'y' => known::yours(s),
         _ => none(),
     }
 }

@@ -2,6 +2,8 @@
 -- place of its fault. Assumes nothing.
 use mathlib.Core.Path.{refl, sym, subst}
 use mathlib.Core.List.{[], _∷_}
+use mathlib.Core.Option.{Option·getD}
+use Prim.Native.Nat.{ℕ}
 use Rattle.division.specs.Words.{_≤?_, _=?_}
 use Rattle.division.specs.Table.{rows, columns, isScale, parentScale}
 use Rattle.division.specs.Grid.{area, owns}
@@ -14,14 +16,20 @@ use Rattle.frame.proofs.FrameTheorems.{frame-exact}
 use Rattle.label.specs.Label.{labelOf, writeLabel, labelLength}
 use Rattle.label.proofs.PlaceTheorems.{refused-iff, place-within}
 use Rattle.catalogue.proofs.LineTheorems.{label-refuses}
+use Rattle.official.specs.Lookup.{nameOf, is250000, writeName, nameTold}
+use Rattle.official.specs.Verdict.{checkAt, checkLine}
 use Rattle.shelf.specs.Kind.{ofSheets}
 use Rattle.shelf.specs.Writing.{listBytes, writeIn, lengthIn}
 use Rattle.shelf.specs.Reading.{behindIn, readIn}
 use Rattle.demands.specs.Refusals.{Gives, answers, RefusalsNumbered, PlacesTold}
 use Rattle.demands.proofs.GivesLaws.{test-gives, then-gives, line-gives, found-gives, answered-gives, read-gives, metres-give, room-gives, laid-gives, label-gives, line-of-gives, cover-gives, set-gives, number-gives, entries-give}
 
+name-gives : (n room : ℕ) → Gives (3 ∷ 22 ∷ 10 ∷ []) (writeName n room)
+unfolding writeName
+name-gives n room = line-gives 3 (isSheet n) refl (line-gives 22 (is250000 n) refl (laid-gives (Option·getD (nameOf n) []) room refl))
+
 pub refusals-numbered : RefusalsNumbered
-unfolding sheetAt locate sheetOn cornersOf frameOf frameAtMetres parent child step walk offset cover blockIn writeLabel labelLength writeIn lengthIn readIn behindIn
+unfolding sheetAt locate sheetOn cornersOf frameOf frameAtMetres parent child step walk offset cover blockIn writeLabel labelLength nameTold checkLine checkAt writeIn lengthIn readIn behindIn
 refusals-numbered = record {
   points = λ s e n. line-gives 2 (isScale s) refl (line-gives 1 (owns area e n) refl answers);
   corners = λ n. line-gives 3 (isSheet n) refl answers;
@@ -45,6 +53,9 @@ refusals-numbered = record {
   labelled = λ n room. line-gives 3 (isSheet n) refl (laid-gives (labelOf n) room refl);
   measured = λ n. line-gives 3 (isSheet n) refl answers;
   lines = line-of-gives (label-gives refl refl refl refl refl) refl refl;
+  names = name-gives;
+  named = λ n room. found-gives (name-gives n room) λ written. answers;
+  checks = λ line. found-gives (line-of-gives (label-gives refl refl refl refl refl) refl refl line) λ n. line-gives 22 (is250000 n) refl answers;
   lists = λ sheets room. then-gives (set-gives ofSheets (λ n. test-gives 3 (isSheet n) refl) refl refl sheets) (laid-gives (listBytes sheets) room refl);
   sized = λ sheets. then-gives (set-gives ofSheets (λ n. test-gives 3 (isSheet n) refl) refl refl sheets) answers;
   reading = λ bytes room.

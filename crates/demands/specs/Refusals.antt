@@ -18,6 +18,8 @@ use Rattle.frame.specs.Metres.{frameOf, sheetAtMetres, frameAtMetres}
 use Rattle.label.specs.Label.{readLabel, writeLabel, labelLength}
 use Rattle.label.specs.Theorems.{Wrong}
 use Rattle.catalogue.specs.Line.{labelIn, readLine}
+use Rattle.official.specs.Lookup.{writeName, nameTold}
+use Rattle.official.specs.Verdict.{checkLine}
 use Rattle.shelf.specs.Writing.{writeList, listLength}
 use Rattle.shelf.specs.Reading.{readList}
 
@@ -52,6 +54,10 @@ pub record RefusalsNumbered : Type 0 where
   pub labelled : (n room : ℕ) → Gives (3 ∷ 10 ∷ []) (writeLabel n room)
   pub measured : (n : ℕ) → Gives (3 ∷ []) (labelLength n)
   pub lines : (line : List ℕ) → Gives (4 ∷ 19 ∷ 20 ∷ 21 ∷ 5 ∷ 17 ∷ 16 ∷ []) (readLine line)
+  -- document 02, d): "22, not a 1:250 000 sheet, after 3, and for a line after 16; .. 10 last"; a name's sheet knows no refusal
+  pub names : (n room : ℕ) → Gives (3 ∷ 22 ∷ 10 ∷ []) (writeName n room)
+  pub named : (n room : ℕ) → Gives (3 ∷ 22 ∷ 10 ∷ []) (nameTold n room)
+  pub checks : (line : List ℕ) → Gives (4 ∷ 19 ∷ 20 ∷ 21 ∷ 5 ∷ 17 ∷ 16 ∷ 22 ∷ []) (checkLine line)
   pub lists : (sheets : List ℕ) (room : ℕ) → Gives (9 ∷ 3 ∷ 15 ∷ 10 ∷ []) (writeList sheets room)
   pub sized : (sheets : List ℕ) → Gives (9 ∷ 3 ∷ 15 ∷ []) (listLength sheets)
   -- "11 .. 12 .. a count above the lent room gives 10. Each entry then gives 11, 12, 13 or a sheet. After the last entry .. 14"

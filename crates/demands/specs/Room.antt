@@ -7,6 +7,7 @@ use Rattle.refusal.specs.Paper.{Paper, answer, refused, roomAfter}
 use Rattle.division.specs.declared.Edges.{Edges}
 use Rattle.division.specs.Cover.{cover}
 use Rattle.label.specs.Label.{writeLabel}
+use Rattle.official.specs.Lookup.{writeName}
 use Rattle.shelf.specs.Writing.{writeList}
 
 -- an answer fills the front of the room; "lent room beyond any accepted answer" keeps its values
@@ -25,4 +26,5 @@ pub record KeepsRoom (ask : ℕ → Paper (List ℕ)) : Type 0 where
 pub record RoomKept : Type 0 where
   pub covers : (s : ℕ) (w : Edges) → KeepsRoom (cover s w)
   pub labels : (n : ℕ) → KeepsRoom (writeLabel n)
+  pub names : (n : ℕ) → KeepsRoom (writeName n)
   pub lists : (sheets : List ℕ) → KeepsRoom (writeList sheets)

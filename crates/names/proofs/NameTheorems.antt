@@ -1,23 +1,23 @@
 -- What the words of document 02, c), say of joining and of names that are the same. Joining again finds nothing, since the first byte of a
 -- single letter is no byte of a letter with its mark, and the second is no letter and begins no mark. Assumes nothing.
-use mathlib.Core.Path.{_≡_, refl, sym, ap, _∙_}
-use mathlib.Core.Bool.{Bool, true, false, _&&_, _||_}
+use mathlib.Core.Path.{_≡_, refl, sym, ap, ap₂, _∙_}
+use mathlib.Core.Bool.{Bool, true, false, false≢true, _&&_, _||_}
 use mathlib.Core.List.{List, [], _∷_, _++_, map, tail, List·Memᴰ}
 use mathlib.Core.Logic.{_↔_, _⊎_, inl, inr, ⊎-elim}
 use mathlib.Core.Option.{Option, none, some}
 use Prim.Native.Nat.{ℕ, _≤_}
 use Prim.Native.Char.{code}
 use native.Mathlib.Omega.{arith}
-use borrow.Author.Tests.{eqb-true}
+use borrow.Author.Tests.{eqb-true, eqb-false}
 use lib.ListN.{length, length-append}
 use lib.Seq.{append-snoc}
 use Rattle.division.specs.Words.{_=?_}
 use Rattle.division.proofs.TestLaws.{both}
 use Rattle.label.specs.Text.{text, every}
-use Rattle.names.specs.Name.{Row, table, singleIn, single, put, joined, SameName}
+use Rattle.names.specs.Name.{Row, table, singleIn, single, put, joined, SameName, sameBytes, isSameName}
 use Rattle.names.specs.Given.{Tells}
 use Rattle.names.specs.Theorems.{apart, together, StandsIn, Unmarked, Respelt, unchanged, letter, back, onwards}
-use Rattle.names.proofs.RowLaws.{each-row, row-of, Formed, formed, not-joined, one-row}
+use Rattle.names.proofs.RowLaws.{each-passes, row-of, Formed, formed, not-joined, one-row}
 use Rattle.names.proofs.JoinLaws.{on, first, joins, keeps, both-pass, Begins, kept, joint, begins, by-itself}
 
 -- ---- "Joining twice changes nothing"
@@ -108,6 +108,22 @@ one-saying true false t u = absurd (u .no refl (t .yes refl))
 one-saying false true t u = absurd (t .no refl (u .yes refl))
 one-saying false false t u = refl
 
+-- ---- sameness as a test
+
+pub bytes-tested : (x y : List ℕ) → Tells (sameBytes x y) (x ≡ y)
+unfolding sameBytes
+bytes-tested [] [] = record { yes = λ e. refl; no = λ e. absurd (false≢true (sym e)) }
+bytes-tested [] (b ∷ y) = record { yes = λ e. absurd (false≢true e); no = λ e s. omega (arith, ap length s) }
+bytes-tested (a ∷ x) [] = record { yes = λ e. absurd (false≢true e); no = λ e s. omega (arith, ap length s) }
+bytes-tested (a ∷ x) (b ∷ y) = by (a =? b) refl (bytes-tested x y)
+  where
+    by : (same : Bool) → (a =? b) ≡ same → Tells (sameBytes x y) (x ≡ y) → Tells (same && sameBytes x y) (a ∷ x ≡ b ∷ y)
+    by true e t = record { yes = λ f. ap₂ on (eqb-true a b e) (t .yes f); no = λ f s. t .no f (ap tail s) }
+    by false e t = record { yes = λ f. absurd (false≢true f); no = λ f s. eqb-false a b e (ap first s) }
+
+pub same-tested : (a b : List ℕ) → Tells (isSameName a b) (SameName a b)
+same-tested a b = bytes-tested (joined a) (joined b)
+
 -- ---- the eight letters, wherever they stand
 
 -- each row of the table is found by its bytes
@@ -130,7 +146,7 @@ is-letter (some t) s e =
 
 module _ (row : Row) (listed : List·Memᴰ row table) (before after : List ℕ) where
   found : single (row .letter) (row .mark .0) (row .mark .1) ≡ some (row .single)
-  found = is-letter _ (row .single) (each-row isFound all-found listed)
+  found = is-letter _ (row .single) (each-passes isFound all-found listed)
 
   shape : Formed (row .letter) (row .mark .0) (row .mark .1) (row .single)
   shape = formed (row .letter) (row .mark .0) (row .mark .1) found
@@ -204,7 +220,7 @@ behind : {l m n : ℕ} {name : List ℕ} → StandsIn (l ∷ m ∷ n ∷ []) nam
 behind {l} {m} {n} s = record { before = s .before ++ (l ∷ []); after = s .after; is = s .is ∙ sym (append-snoc (s .before) l (m ∷ n ∷ s .after)) }
 
 pub unmarked-stays : (name : List ℕ) → Unmarked name → joined name ≡ name
-unmarked-stays name u = nothing-else name (λ row l s. marked row (each-row isMarked all-marked l) (behind s))
+unmarked-stays name u = nothing-else name (λ row l s. marked row (each-passes isMarked all-marked l) (behind s))
   where
     marked : (row : Row) → isMarked row ≡ true → StandsIn (row .mark .0 ∷ row .mark .1 ∷ []) name → ⊥
     marked row e s =

@@ -14,10 +14,11 @@ use Rattle.names.specs.Name.{Row, table, singleIn, single}
 
 -- ---- a row of the table
 
-pub each-row : (test : Row → Bool) {rows : List Row} {row : Row} → every test rows ≡ true → List·Memᴰ row rows → test row ≡ true
+-- what every one of a list passes, each does
+pub each-passes : {A : Type 0} (test : A → Bool) {xs : List A} {x : A} → every test xs ≡ true → List·Memᴰ x xs → test x ≡ true
 unfolding every
-each-row test {rows = x ∷ rows} e (List·Memᴰ·head is) = ap test is ∙ both (test x) (every test rows) e .0
-each-row test {rows = x ∷ rows} e (List·Memᴰ·tail listed) = each-row test (both (test x) (every test rows) e .1) listed
+each-passes test {xs = y ∷ xs} e (List·Memᴰ·head is) = ap test is ∙ both (test y) (every test xs) e .0
+each-passes test {xs = y ∷ xs} e (List·Memᴰ·tail listed) = each-passes test (both (test y) (every test xs) e .1) listed
 
 -- the row that three bytes are of
 pub record RowOf (rows : List Row) (a m n : ℕ) (letter : ℕ × ℕ) : Type 0 where
@@ -82,7 +83,7 @@ row-formed row e =
 pub formed : (a m n : ℕ) {letter : ℕ × ℕ} → single a m n ≡ some letter → Formed a m n letter
 formed a m n e =
     let r = row-of table a m n e in
-    let f = row-formed (r .row) (each-row isFormed all-formed (r .listed)) in
+    let f = row-formed (r .row) (each-passes isFormed all-formed (r .listed)) in
     rw (r .is-letter, r .is-mark .0, r .is-mark .1, r .is-single) at f
 
 -- three bytes that are of other kinds are not joined
@@ -114,6 +115,6 @@ pub one-row : {a m n b k l : ℕ} {x y : ℕ × ℕ} → single a m n ≡ some x
 one-row {a} {m} {n} {b} {k} {l} e f g h =
     let r = row-of table a m n e in
     let s = row-of table b k l f in
-    let t = each-row (isOne (r .row)) (each-row (λ (x : Row). every (isOne x) table) all-one (r .listed)) (s .listed) in
+    let t = each-passes (isOne (r .row)) (each-passes (λ (x : Row). every (isOne x) table) all-one (r .listed)) (s .listed) in
     let o = one (r .row) (s .row) t (rw (r .is-single, s .is-single) g) (rw (r .is-single, s .is-single) h) in
     (sym (r .is-letter) ∙ o .0 ∙ s .is-letter, sym (r .is-mark .0) ∙ o .1 ∙ s .is-mark .0, sym (r .is-mark .1) ∙ o .2 ∙ s .is-mark .1)

@@ -2,7 +2,7 @@
 use Prim.Native.Nat.{ℕ}
 use Prim.Native.Char.{code}
 use mathlib.Core.Path.{_≡_}
-use mathlib.Core.Bool.{cond, _&&_}
+use mathlib.Core.Bool.{Bool, true, false, cond, _&&_}
 use mathlib.Core.List.{List, [], _∷_}
 use mathlib.Core.Option.{Option, none, some}
 use Rattle.division.specs.Words.{_=?_}
@@ -53,3 +53,13 @@ joined (a ∷ m ∷ n ∷ bytes) = put (single a m n) (joined bytes) (a ∷ join
 -- "Names are the same when they are equal after joining"
 abbrev pub SameName : List ℕ → List ℕ → Type 0
 SameName a b = joined a ≡ joined b
+
+-- the same as a test, byte for byte (proofs/NameTheorems, `same-tested`)
+unfoldable pub sameBytes : List ℕ → List ℕ → Bool
+sameBytes [] [] = true
+sameBytes [] (b ∷ y) = false
+sameBytes (a ∷ x) [] = false
+sameBytes (a ∷ x) (b ∷ y) = a =? b && sameBytes x y
+
+abbrev pub isSameName : List ℕ → List ℕ → Bool
+isSameName a b = sameBytes (joined a) (joined b)

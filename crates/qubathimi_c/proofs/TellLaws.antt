@@ -1,19 +1,26 @@
 -- What is told of an answer is told of the definition that it meets. Assumes nothing.
 use mathlib.Core.Path.{_≡_, refl, sym, ap, _∙_}
 use mathlib.Core.List.{List}
+use mathlib.Core.Option.{Option, Option·getD}
 use Prim.Native.Nat.{ℕ}
 use Rattle.refusal.specs.declared.Refusal.{Refusal}
-use Rattle.refusal.specs.Paper.{Paper, answer, refused, counted}
+use Rattle.refusal.specs.Paper.{Paper, answer, refused, _>>=_, counted}
 use Rattle.refusal.specs.Numbers.{onPaper}
 use Rattle.refusal.proofs.PaperLaws.{on-paper}
+use Rattle.official.specs.Lookup.{writeName, nameTold}
+use Rattle.official.proofs.LookupLaws.{count-told}
 use Rattle.shelf.specs.declared.reading.Read.{Read}
 use Rattle.shelf.specs.Reading.{Reading, endedPaper, IsRead}
-use Rattle.qubathimi_c.specs.Plain.{counting, readCount}
+use Rattle.qubathimi_c.specs.Plain.{byteCount, counting, readCount}
 use Rattle.qubathimi_c.specs.Told.{status, carried}
 
--- a status and a value
+-- a status, and an answer that is told as a number
+pub told-by : {A : Type 0} (number : Paper A → Paper ℕ) {p q : Paper A} {r v : ℕ} → p ≡ q → (r ≡ status p) × (v ≡ carried (number p)) → (r ≡ status q) × (v ≡ carried (number q))
+told-by {A} number e t = (t .0 ∙ ap status e, t .1 ∙ ap (λ (p : Paper A). carried (number p)) e)
+
+-- or is one
 pub told : {p q : Paper ℕ} {r v : ℕ} → p ≡ q → (r ≡ status p) × (v ≡ carried p) → (r ≡ status q) × (v ≡ carried q)
-told e t = (t .0 ∙ ap status e, t .1 ∙ ap carried e)
+told e t = told-by (λ p. p) e t
 
 -- counting what is laid leaves the status
 counted-status : (p : Paper (List ℕ)) → status (counted p) ≡ status p
@@ -26,6 +33,18 @@ told-laid q l t =
     let s = told (l .0) t in
     (s .0 ∙ counted-status q, (s .1, l .1))
 
+-- a number for an answer leaves the status
+number-status : {A B : Type 0} (number : A → B) (p : Paper A) → status (p >>= λ a. answer (number a)) ≡ status p
+number-status number (answer a) = refl
+number-status number (refused n v) = refl
+
+-- an official name, or none, which has no bytes
+pub told-name : (n room : ℕ) {p : Paper (Option ℕ)} {r v : ℕ} {new after : List ℕ} → (p ≡ nameTold n room) × (new ≡ after) → (r ≡ status p) × (v ≡ carried (byteCount p)) → (r ≡ status (writeName n room)) × ((v ≡ carried (counted (writeName n room))) × (new ≡ after))
+told-name n room l t =
+    let s = told-by byteCount (l .0) t in
+    let c = count-told n room in
+    (s .0 ∙ sym (number-status (λ count. Option·getD count 0) (nameTold n room)) ∙ ap status c ∙ counted-status (writeName n room), (s .1 ∙ ap carried c, l .1))
+
 -- the arm of a match that is taken has the answer that was matched
 pub arm : {A X : Type 0} (paper : X → Paper A) {a b : X} {d : Paper A} → a ≡ b → paper a ≡ d → paper b ≡ d
 arm paper e f = ap paper (sym e) ∙ f
@@ -34,7 +53,11 @@ arm paper e f = ap paper (sym e) ∙ f
 pub any-paper : (A : Type 0) (why : Refusal) → onPaper {A = A} why ≡ refused (status (onPaper {A = ℕ} why)) (carried (onPaper why))
 any-paper A why = rw (on-paper why .is A, on-paper why .is ℕ)
 
--- so its number and its value are those of any definition that refuses so
+-- so it is told alike where the answer would be a number for something else
+pub told-refused : {A : Type 0} (next : A → Paper ℕ) (why : Refusal) {r v : ℕ} → (r ≡ status (onPaper {A = ℕ} why)) × (v ≡ carried (onPaper why)) → (r ≡ status (onPaper {A = A} why)) × (v ≡ carried (onPaper why >>= next))
+told-refused {A} next why t = rw (on-paper why .is A) (rw (on-paper why .is ℕ) at t)
+
+-- and its number and its value are those of any definition that refuses so
 pub refused-so : {A : Type 0} (why : Refusal) {d : Paper A} {n v : ℕ} → refused n v ≡ onPaper {A = ℕ} why → onPaper why ≡ d → refused n v ≡ d
 refused-so {A} why e f = ap (λ (p : Paper ℕ). refused (status p) (carried p)) e ∙ sym (any-paper A why) ∙ f
 

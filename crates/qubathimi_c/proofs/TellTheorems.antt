@@ -1,8 +1,11 @@
 -- What a caller in C is told says all that the answer says: the answer can be had back from it, so no two are told the same. Assumes nothing.
-use mathlib.Core.Path.{_≡_, refl}
+use mathlib.Core.Path.{_≡_, refl, ap}
 use mathlib.Core.Bool.{false, cond}
 use mathlib.Core.List.{List}
-use Prim.Native.Nat.{ℕ}
+use mathlib.Core.Option.{some}
+use Prim.Native.Nat.{ℕ, _≤_}
+use native.Mathlib.Omega.{arith}
+use lib.ListN.{length}
 use Rattle.refusal.specs.declared.Refusal.{Refusal}
 use Rattle.refusal.specs.declared.Laid.{Laid}
 use Rattle.refusal.specs.declared.Laid.the-variants as laid
@@ -16,7 +19,11 @@ use Rattle.division.specs.Sheet.{isSheet}
 use Rattle.division.specs.Answers.{sheetPaper}
 use Rattle.catalogue.specs.Parts.{part, labelPart, Caption, ofLine, ofFallback}
 use Rattle.catalogue.proofs.PartLaws.{label-first}
-use Rattle.qubathimi_c.specs.Plain.{mark, source, partOf}
+use Rattle.official.specs.Lookup.{nameOf}
+use Rattle.official.specs.Verdict.{Verdict, agrees, differs, notListed}
+use Rattle.official.proofs.ListTheorems.{name-sized}
+use Rattle.official.proofs.LookupTheorems.{listed-iff}
+use Rattle.qubathimi_c.specs.Plain.{mark, source, partOf, verdictAs}
 use Rattle.qubathimi_c.specs.Told.{status, carried}
 use Rattle.refusal.proofs.PaperLaws.{on-paper}
 
@@ -54,3 +61,20 @@ captionHeard source start end = cond (source =? 0) (ofLine (part start end)) (of
 pub caption-heard : (c : Caption) → captionHeard (source c) (partOf c .start) (partOf c .end) ≡ c
 caption-heard (ofLine p) = refl
 caption-heard (ofFallback p) = refl
+
+-- ---- official names
+
+-- that no bytes were laid is told of "not listed" alone
+pub some-bytes : (n : ℕ) (name : List ℕ) → nameOf n ≡ some name → 1 ≤ length name
+some-bytes n name e =
+    let u = listed-iff n name .0 e in
+    omega (arith, name-sized (u .place) (u .listed) .0, ap length (u .is))
+
+-- what a caller makes of a number
+abbrev pub verdictHeard : ℕ → Verdict
+verdictHeard n = cond (n =? 0) agrees (cond (n =? 1) differs notListed)
+
+pub verdict-heard : (v : Verdict) → verdictHeard (verdictAs v) ≡ v
+verdict-heard agrees = refl
+verdict-heard differs = refl
+verdict-heard notListed = refl

@@ -1,15 +1,18 @@
--- Places, windows, blocks, captions and readings as plain numbers. Document 01, "Relations", "Catalogue lines" and "Shelf list".
+-- Places, windows, blocks, captions, official names and readings as plain numbers. Document 01, "Relations", "Catalogue lines" and "Shelf
+-- list"; document 02, d).
 use Prim.Native.Nat.{ℕ}
 use mathlib.Core.List.{List, [], _∷_, map, flatMap}
+use mathlib.Core.Option.{Option, Option·getD}
 use lib.IntN.{ℤ}
 use lib.ListN.{length, getD}
-use Rattle.refusal.specs.Paper.{Paper, answer, _>>_, laid}
+use Rattle.refusal.specs.Paper.{Paper, answer, _>>_, _>>=_, laid}
 use Rattle.division.specs.declared.Place.{Place}
 use Rattle.division.specs.declared.Edges.{Edges}
 use Rattle.relations.specs.declared.Neighbour.{Neighbour}
 use Rattle.relations.specs.declared.Neighbour.the-variants.{Sheet, None}
 use Rattle.relations.specs.Relations.{neighbours}
 use Rattle.catalogue.specs.Parts.{Part, Caption, ofLine, ofFallback}
+use Rattle.official.specs.Verdict.{Verdict, agrees, differs, notListed}
 use Rattle.shelf.specs.Reading.{Reading}
 
 abbrev pub place : ℕ → ℕ → Place
@@ -40,6 +43,23 @@ source (ofFallback p) = 1
 abbrev pub partOf : Caption → Part
 partOf (ofLine p) = p
 partOf (ofFallback p) = p
+
+-- how many bytes of an official name were laid: 0 for "not listed"
+abbrev pub byteCount : Paper (Option ℕ) → Paper ℕ
+byteCount named = named >>= λ count. answer (Option·getD count 0)
+
+-- the sheet that has a name: a number that is no sheet for "not listed"
+abbrev pub sheetOrNone : Option ℕ → ℕ
+sheetOrNone sheet = Option·getD sheet 4_294_967_295
+
+-- what is said of the name in a line
+abbrev pub verdictAs : Verdict → ℕ
+verdictAs agrees = 0
+verdictAs differs = 1
+verdictAs notListed = 2
+
+abbrev pub verdictNumber : Paper Verdict → Paper ℕ
+verdictNumber said = said >>= λ verdict. answer (verdictAs verdict)
 
 -- how many sheets a list has that is read whole, by how its reading ended and how many it placed
 abbrev pub counting : Paper Unit → ℕ → Paper ℕ

@@ -31,6 +31,7 @@ pub enum Refusal {
     FieldForm(usize),
     // a label that names no scale is wrong from its first byte on: its place is always 0
     NamesNoScale,
+    Not250000,
 }
 
 // What was laid into lent room: so many sheets or bytes, from its first place on; or a refusal, and the room is as it was.
@@ -68,6 +69,7 @@ impl Refusal {
             Refusal::StrangeByte(place) => Numbered(19, place, true),
             Refusal::FieldForm(place) => Numbered(20, place, true),
             Refusal::NamesNoScale => Numbered(21, 0, true),
+            Refusal::Not250000 => Numbered(22, 0, false),
         }
     }
 }

@@ -75,6 +75,9 @@ enum-known-self-5 c = search needs
 enum-told-16 : tie.Need-enum-told-16
 enum-told-16 c = search needs
 
+enum-told-17 : tie.Need-enum-told-17
+enum-told-17 c = search needs
+
 returns : tie.Need-returns
 returns c = told (c .enum-told .given .1) refl refl
 
@@ -138,6 +141,9 @@ returns-20 c = told (c .before .self5 .given .1) refl refl
 returns-21 : tie.Need-returns-21
 returns-21 c = told (c .enum-told16 .given .1) refl refl
 
+returns-22 : tie.Need-returns-22
+returns-22 c = told (c .enum-told17 .given .1) refl refl
+
 pub numbered-spec : {M : Type 1} → statement M
 numbered-spec =
     tie.close
@@ -163,6 +169,7 @@ numbered-spec =
     enum-known-self-4
     enum-known-self-5
     enum-told-16
+    enum-told-17
     returns
     returns-2
     returns-3
@@ -183,4 +190,5 @@ numbered-spec =
     returns-18
     returns-19
     returns-20
-    returns-21)
+    returns-21
+    returns-22)

@@ -1,0 +1,25 @@
+-- The answer is told as it is. Assumes nothing.
+use lib.ListN.{length}
+use borrow.Author.Needs.{needs}
+use Rattle.qubathimi_c.proofs.TellLaws.{told-name}
+use Rattle.qubathimi_c.proofs.known.qubathimi_official_name.Statement.{statement}
+use Rattle.qubathimi_c.proofs.known.qubathimi_official_name.Tie as tie
+
+official-name-requires : tie.Need-official-name-requires
+official-name-requires c κs = search needs
+
+tell-named-requires : tie.Need-tell-named-requires
+tell-named-requires c κs = search needs
+
+same-length : tie.Need-same-length
+same-length c = search needs
+
+returns : tie.Need-returns
+returns c =
+    let w = c .before .before .before .before in
+    let a = w .before .before .before .args in
+    told-name (a .sheet) (length (a .room .now)) (w .official-name .ensures) (c .tell-named .ensures)
+
+pub qubathimi-official-name-spec : {M : Type 1} → statement M
+qubathimi-official-name-spec =
+    tie.close (tie.spec official-name-requires tell-named-requires same-length returns)
