@@ -203,7 +203,8 @@ uint32_t qubathimi_official_sheet(const uint8_t *name, size_t length, uint64_t *
 
 /* What the list says of the name in a catalogue line. *value is QUBATHIMI_AGREES where the line has its sheet's official name, in either
  * spelling; QUBATHIMI_DIFFERS where it has any other name, also that of another sheet, or none; and QUBATHIMI_NOT_LISTED where its sheet has
- * no official name, whatever the line has. Refusals: those of qubathimi_read_line, with their places; then 22 for a sheet of another scale. */
+ * no official name, whatever the line has. Refusals: those of qubathimi_read_line, with their places; then 22 for a sheet of another scale.
+ * examples/official.c checks a catalogue by it. */
 uint32_t qubathimi_official_check(const uint8_t *line, size_t length, uint64_t *value);
 
 /* ---- Shelf lists ---- */

@@ -17,7 +17,8 @@ use Rattle.names.proofs.NameTheorems.{one-saying, same-tested}
 use Rattle.official.specs.declared.list.Entry.{Entry}
 use Rattle.official.specs.List.{Row, official}
 use Rattle.official.specs.Lookup.{find, sheetIn}
-use Rattle.official.specs.Given.{noRow, rowAt, bytesOf, AreOfficial, HasName}
+use Rattle.official.specs.Given.{bytesOf, AreOfficial, HasName}
+use Rattle.official.specs.Theorems.{noRow, rowAt}
 use Rattle.official.proofs.FindLaws.{found-here, found-behind, found-nowhere}
 use Rattle.official.proofs.ListTheorems.{fifteen}
 use Rattle.official.proofs.LookupTheorems.{ofSheet, ofName}

@@ -22,8 +22,7 @@ use Rattle.names.proofs.NameTheorems.{bytes-tested}
 use Rattle.catalogue.specs.Line.{labelIn, hasName, nameIn, isName, withName, readLine}
 use Rattle.official.specs.List.{utf8, Row, official}
 use Rattle.official.specs.Lookup.{answered, sheetIn, _is?_, is250000}
-use Rattle.official.specs.Given.{rowAt}
-use Rattle.official.specs.Theorems.{lineOf, Sound}
+use Rattle.official.specs.Theorems.{rowAt, lineOf, Sound}
 
 pub fifteen : length official ≡ 15
 unfolding official

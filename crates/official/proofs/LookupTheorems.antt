@@ -17,8 +17,7 @@ use Rattle.names.specs.Name.{joined, SameName, sameBytes, isSameName}
 use Rattle.names.proofs.NameTheorems.{same-tested}
 use Rattle.official.specs.List.{Row, official}
 use Rattle.official.specs.Lookup.{find, answered, sheetIn, _is?_, nameOf, sheetCalled}
-use Rattle.official.specs.Given.{noRow, rowAt}
-use Rattle.official.specs.Theorems.{Under, Called}
+use Rattle.official.specs.Theorems.{noRow, rowAt, Under, Called}
 use Rattle.official.proofs.FindLaws.{found-stands, alone-found}
 use Rattle.official.proofs.ListTheorems.{fifteen, is-answer, sound, one-name, one-sheet}
 

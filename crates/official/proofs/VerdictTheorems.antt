@@ -17,8 +17,7 @@ use Rattle.names.proofs.NameTheorems.{one-saying, same-tested}
 use Rattle.catalogue.specs.Line.{hasName, nameIn, readLine}
 use Rattle.official.specs.Lookup.{nameOf, is250000}
 use Rattle.official.specs.Verdict.{Verdict, agrees, differs, notListed, verdict, checkAt, checkLine}
-use Rattle.official.specs.Given.{rowAt}
-use Rattle.official.specs.Theorems.{lineOf, Agrees, Differs, NotListed}
+use Rattle.official.specs.Theorems.{rowAt, lineOf, Agrees, Differs, NotListed}
 use Rattle.official.proofs.ListTheorems.{sound}
 use Rattle.official.proofs.LookupTheorems.{listed-iff, named-scale}
 

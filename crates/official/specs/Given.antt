@@ -2,22 +2,15 @@
 use Prim.Native.Nat.{ℕ, _≤_}
 use mathlib.Core.Path.{_≡_}
 use mathlib.Core.Bool.{true, cond}
-use mathlib.Core.List.{List, [], map}
+use mathlib.Core.List.{List, map}
 use mathlib.Core.Option.{Option, none, some}
-use lib.ListN.{length, getD, take}
+use lib.ListN.{length, take}
 use Rattle.refusal.specs.Paper.{Paper, answer, _>>=_}
 use Rattle.division.specs.Words.{_=?_, between}
 use Rattle.label.specs.Text.{every}
 use Rattle.official.specs.declared.list.Entry.{Entry}
-use Rattle.official.specs.List.{Row, official}
+use Rattle.official.specs.List.{official}
 use Rattle.official.specs.Lookup.{sheetIn}
-
--- a row of the list, counted from 0, and one without a byte where there is none
-abbrev pub noRow : Row
-noRow = record { label = []; name = [] }
-
-abbrev pub rowAt : ℕ → Row
-rowAt i = getD official i noRow
 
 -- the code's list is the paper's: the sheets that the labels name, and the names, whole and not empty
 abbrev pub bytesOf : Entry → List ℕ
@@ -29,11 +22,11 @@ pub record AreOfficial (es : List Entry) : Type 0 where
   pub whole : every (λ e. between 1 (length (e .2)) (e .1)) es ≡ true
 
 -- an entry has that name, and without a byte it has none
-abbrev pub nameIn : Entry → Option (List ℕ)
-nameIn e = cond (e .1 =? 0) none (some (bytesOf e))
+abbrev pub nameFound : Entry → Option (List ℕ)
+nameFound e = cond (e .1 =? 0) none (some (bytesOf e))
 
 pub record HasName (name : Option (List ℕ)) (e : Entry) : Type 0 where
-  pub is : nameIn e ≡ name
+  pub is : nameFound e ≡ name
   pub fits : e .1 ≤ length (e .2)
 
 -- the answer where a name's bytes were laid

@@ -7,7 +7,7 @@ use mathlib.Core.Bool.{cond}
 use mathlib.Core.List.{List, [], _∷_, _++_}
 use Rattle.division.specs.Words.{_<?_}
 
--- a letter in UTF-8: one byte, or from 80 on two; no letter here takes more
+-- a letter in UTF-8: one byte below 0x80, and two from there on; no letter here takes more
 abbrev pub inBytes : ℕ → List ℕ
 inBytes c = cond (c <? 0x80) (c ∷ []) ((0xC0 + c / 64) ∷ (0x80 + c % 64) ∷ [])
 

@@ -3,16 +3,23 @@ use Prim.Native.Nat.{ℕ, _<_}
 use Prim.Native.Char.{code}
 use mathlib.Core.Path.{_≡_}
 use mathlib.Core.Bool.{true}
-use mathlib.Core.List.{List, _∷_, _++_}
+use mathlib.Core.List.{List, [], _∷_, _++_}
 use mathlib.Core.Option.{none, some}
+use lib.ListN.{getD}
 use Rattle.refusal.specs.Paper.{answer}
 use Rattle.division.specs.Sheet.{scaleOf}
 use Rattle.label.specs.Label.{readLabel}
 use Rattle.names.specs.Name.{SameName}
 use Rattle.catalogue.specs.Line.{hasName, nameIn, isName, readLine}
-use Rattle.official.specs.List.{Row}
+use Rattle.official.specs.List.{Row, official}
 use Rattle.official.specs.Lookup.{nameOf}
-use Rattle.official.specs.Given.{rowAt}
+
+-- a row of the list, counted from 0, and one without a byte where there is none
+abbrev pub noRow : Row
+noRow = record { label = []; name = [] }
+
+abbrev pub rowAt : ℕ → Row
+rowAt i = getD official i noRow
 
 -- a row as a catalogue line
 abbrev pub lineOf : Row → List ℕ

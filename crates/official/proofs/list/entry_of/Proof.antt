@@ -6,7 +6,7 @@ use native.Mathlib.Omega.{arith}
 use borrow.Author.Needs.{needs}
 use lib.ListN.{getD}
 use Rattle.official.specs.Lookup.{nameOf}
-use Rattle.official.specs.Given.{rowAt}
+use Rattle.official.specs.Theorems.{rowAt}
 use Rattle.official.proofs.ListLaws.{IsRow, is-row, nameFrom, name-nowhere, name-here, name-behind}
 use Rattle.official.proofs.list.entry_of.Statement.{statement}
 use Rattle.official.proofs.list.entry_of.Tie as tie

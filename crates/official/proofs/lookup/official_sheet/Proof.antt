@@ -7,7 +7,7 @@ use borrow.Author.Needs.{needs}
 use lib.ListN.{getD}
 use lib.Seq.{length-take-le}
 use Rattle.official.specs.Lookup.{sheetCalled}
-use Rattle.official.specs.Given.{rowAt}
+use Rattle.official.specs.Theorems.{rowAt}
 use Rattle.official.proofs.ListLaws.{IsRow, is-row, sheetFrom, sheet-nowhere, sheet-here, sheet-behind}
 use Rattle.official.proofs.lookup.official_sheet.Statement.{statement}
 use Rattle.official.proofs.lookup.official_sheet.Tie as tie
