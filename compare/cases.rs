@@ -1,7 +1,7 @@
 //! Writes down what compare/paper.rs answers: to the questions of crates/cases, and for the catalogues of samples/. compare/cases builds
 //! and runs it, in the repository's folder.
 //!
-//!     cases                      writes crates/cases/stdout, and the rows beside each catalogue in samples/, anew
+//!     cases                      writes crates/cases/stdout, the rows beside each catalogue in samples/, and tk250.official there, anew
 //!     cases check                says which of them are not so
 //!     cases ask                  the questions on standard input with their answers
 //!     cases rows                 the rows of the catalogue on standard input
@@ -361,6 +361,19 @@ impl Paper {
         lines
     }
 
+    /// What the official names say of a catalogue, line by line: its number, the answer, the label, the name and, where it differs, the
+    /// official one, with tabs between. Only for lines of 1:250 000 sheets.
+    fn official(&self, catalogue: &str) -> String {
+        let row = |(place, line): (usize, &str)| {
+            let said = self.0.official_check(line.as_bytes()).unwrap_or_else(|refusal| stop(format!("{line}: {refusal}")));
+            let (label, name) = line.split_once(' ').unwrap_or((line, ""));
+            let sheet = self.0.read_label(label.as_bytes()).expect("a label");
+            let other = self.0.official_name(sheet, usize::MAX).expect("a sheet").filter(|_| said == paper::Checked::Differs);
+            format!("{}\t{said}\t{label}\t{name}{}\n", place + 1, other.map_or(String::new(), |name| format!("\t{name}")))
+        };
+        catalogue.lines().enumerate().map(row).collect()
+    }
+
     /// Each file that is written, and what it must have in it.
     fn files(&self) -> Vec<(String, String)> {
         let mut files = vec![(ANSWERS.to_string(), self.answers())];
@@ -371,6 +384,7 @@ impl Paper {
             let catalogue = bytes_of(&format!("{SAMPLES}/{name}.txt"));
             files.push((format!("{SAMPLES}/{name}.rows"), self.0.rows(&catalogue)));
         }
+        files.push((format!("{SAMPLES}/tk250.official"), self.official(&text_of(&format!("{SAMPLES}/tk250.txt")))));
         files
     }
 }

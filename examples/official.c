@@ -1,5 +1,5 @@
-/* Which lines of a catalogue have another name than the official one of their sheet, and which sheet has an official name. Only 1:250 000
- * sheets have such names, fifteen of them.
+/* Which lines of a catalogue have another name than the official one of their sheet, and which sheet has an official name. The list has
+ * the names of fifteen 1:250 000 sheets.
  *
  *     official CATALOGUE       the lines that differ
  *     official -a CATALOGUE    all lines of 1:250 000 sheets
@@ -7,8 +7,8 @@
  *
  * Prints a row for each line, with tabs between: its number, "agrees", "differs" or "not listed", the label, the name there, which may be of
  * no bytes, and, where it differs, the official one. Refused lines are told first, on standard error, and last how many lines are of other
- * scales. For a name it prints the sheet number, the label and the official name, or "not listed". Ends with 1 where a file cannot be read
- * or the rows cannot be written. */
+ * scales. For a name it prints the sheet number, the label and the official name, or "not listed". Ends with 1 where a file cannot be read,
+ * the rows cannot be written or it is called otherwise, and with 0 also where lines differ. */
 #define PROGRAM "official"
 #include "catalogue.h"
 

@@ -41,7 +41,7 @@ extern "C" {
 #define QUBATHIMI_LONGEST_LABEL 16
 /* the most sheets that a cover or a list has */
 #define QUBATHIMI_MOST_SHEETS 4096
-/* the places of a block of neighbours, and the mark of a place with no sheet */
+/* the places of a block of neighbours, and the mark of no sheet: at a place off the grid, and for a name that no sheet has */
 #define QUBATHIMI_NEIGHBOURS 9
 #define QUBATHIMI_NONE UINT32_C(4294967295)
 /* where a caption lies */
@@ -193,8 +193,9 @@ bool qubathimi_same_name(const uint8_t *a, size_t a_length, const uint8_t *b, si
 
 /* ---- Official names: the fifteen of the 1:250 000 sheets, in UTF-8. Nine of the 24 sheets have none: "not listed" is an answer ---- */
 
-/* The official name of a 1:250 000 sheet, laid into `room`, with no zero byte behind it. *value is the count of its bytes; it is 0 where the
- * sheet is not listed, for which no room is needed, and of no other. Refusals: 3; 22 for a sheet of another scale; 10. */
+/* The official name of a 1:250 000 sheet, laid into `room`, with no zero byte behind it. With the result 0, *value is the count of its
+ * bytes, and it is 0 exactly where the sheet is not listed, for which no room is needed. Refusals: 3; 22 for a sheet of another scale;
+ * 10. */
 uint32_t qubathimi_official_name(uint32_t sheet, uint8_t *room, size_t length, uint64_t *value);
 
 /* The sheet that has a name, whichever kind of computer it was typed on: as qubathimi_same_name compares. *value is QUBATHIMI_NONE where no

@@ -18,6 +18,7 @@ use Rattle.label.proofs.PlaceTheorems.{refused-iff, place-within}
 use Rattle.catalogue.proofs.LineTheorems.{label-refuses}
 use Rattle.official.specs.Lookup.{nameOf, is250000, writeName, nameTold}
 use Rattle.official.specs.Verdict.{checkAt, checkLine}
+use Rattle.official.proofs.VerdictTheorems.{place-repeated}
 use Rattle.shelf.specs.Kind.{ofSheets}
 use Rattle.shelf.specs.Writing.{listBytes, writeIn, lengthIn}
 use Rattle.shelf.specs.Reading.{behindIn, readIn}
@@ -66,4 +67,4 @@ refusals-numbered = record {
 }
 
 pub places-told : PlacesTold
-places-told = record { wrong = refused-iff; within = place-within; repeated = label-refuses }
+places-told = record { wrong = refused-iff; within = place-within; repeated = label-refuses; checked = place-repeated }

@@ -73,3 +73,7 @@ pub record PlacesTold : Type 0 where
   pub repeated :
       (line : List ℕ) (number place : ℕ) → carries number ≡ true →
       (readLine line ≡ refused number place) ↔ (readLabel (labelIn line) ≡ refused number place)
+  -- and so does the check of a line: document 02, d): "22 .. for a line after 16"
+  pub checked :
+      (line : List ℕ) (number place : ℕ) → carries number ≡ true →
+      (checkLine line ≡ refused number place) ↔ (readLine line ≡ refused number place)

@@ -108,6 +108,15 @@ one-saying true false t u = absurd (u .no refl (t .yes refl))
 one-saying false true t u = absurd (t .no refl (u .yes refl))
 one-saying false false t u = refl
 
+-- and it is what holds
+pub tells-true : {P : Type 0} {r : Bool} → Tells r P → P → r ≡ true
+tells-true {r = true} t p = refl
+tells-true {r = false} t p = absurd (t .no refl p)
+
+pub tells-false : {P : Type 0} {r : Bool} → Tells r P → (P → ⊥) → r ≡ false
+tells-false {r = true} t n = absurd (n (t .yes refl))
+tells-false {r = false} t n = refl
+
 -- ---- sameness as a test
 
 pub bytes-tested : (x y : List ℕ) → Tells (sameBytes x y) (x ≡ y)

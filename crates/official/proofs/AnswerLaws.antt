@@ -10,16 +10,16 @@ use Rattle.official.specs.declared.Listed.the-variants as listed
 use Rattle.official.specs.declared.Checked.{Checked}
 use Rattle.official.specs.declared.Checked.the-variants as checked
 use Rattle.official.specs.Verdict.{Verdict, agrees, differs, notListed}
-use Rattle.official.specs.Answers.{namedPaper, listedPaper, checkedPaper}
+use Rattle.official.specs.Answers.{namePaper, listedPaper, checkedPaper}
 
 abbrev nameBack : Option ℕ → Named
 nameBack (some n) = named.Bytes n
 nameBack none = named.NotListed
 
-pub named-told : Told namedPaper
-named-told = record { back = read nameBack named.Refused; again = again }
+pub name-told : Told namePaper
+name-told = record { back = read nameBack named.Refused; again = again }
   where
-    again : (a : Named) → read nameBack named.Refused (namedPaper a) ≡ a
+    again : (a : Named) → read nameBack named.Refused (namePaper a) ≡ a
     again (named.Bytes n) = refl
     again named.NotListed = refl
     again (named.Refused why) = read-refusal nameBack named.Refused why

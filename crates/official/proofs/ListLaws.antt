@@ -61,43 +61,49 @@ module _ {es : List Entry} (o : AreOfficial es) (d : Entry) (i : ℕ) (h : i < 1
         fits = z .1;
       }
 
--- ---- a loop that looks for a sheet, and has come to place i
+-- ---- a loop that looks for a row, and has come to place i: what is told of the first that passes
 
-abbrev pub nameFrom : ℕ → ℕ → Option (List ℕ)
-nameFrom n i = Option·map (λ row. row .name) (find (ofSheet n) (drop i official))
+abbrev pub leftFrom : {B : Type 0} → (Row → Bool) → (Option Row → B) → ℕ → B
+leftFrom test tell i = tell (find test (drop i official))
 
-pub name-nowhere : (n i : ℕ) → 15 ≤ i → nameFrom n i ≡ none
-name-nowhere n i h = ap (Option·map (λ row. row .name)) (found-nowhere (ofSheet n) noRow official i (omega (arith, fifteen)))
+module _ {B : Type 0} (test : Row → Bool) (tell : Option Row → B) (i : ℕ) where
+  pub none-left : 15 ≤ i → leftFrom test tell i ≡ tell none
+  none-left h = ap tell (found-nowhere test noRow official i (omega (arith, fifteen)))
+
+  found-at : i < 15 → test (rowAt i) ≡ true → leftFrom test tell i ≡ tell (some (rowAt i))
+  found-at h e = ap tell (found-here test noRow official i (omega (arith, fifteen)) e)
+
+  passed-by : i < 15 → test (rowAt i) ≡ false → leftFrom test tell i ≡ leftFrom test tell (i + 1)
+  passed-by h e = ap tell (found-behind test noRow official i (omega (arith, fifteen)) e)
+
+-- for a sheet, its name
+abbrev pub nameIn : Option Row → Option (List ℕ)
+nameIn row = Option·map (λ r. r .name) row
 
 module _ (n i : ℕ) {e : Entry} (h : i < 15) (r : IsRow (rowAt i) e) where
-  pub name-here : e .0 ≡ n → HasName (nameFrom n i) e
+  pub name-here : e .0 ≡ n → HasName (leftFrom (ofSheet n) nameIn i) e
   name-here s =
-      let f = found-here (ofSheet n) noRow official i (omega (arith, fifteen)) (rw (r .sheet) (eq-eqb (e .0) n s)) in
+      let f = found-at (ofSheet n) nameIn i h (rw (r .sheet) (eq-eqb (e .0) n s)) in
       let z : (e .1 =? 0) ≡ false = ne-eqb (e .1) 0 (λ k. omega (arith, k, r .some-bytes)) in
       record { is = rw (z, f, r .name); fits = r .fits }
 
-  pub name-behind : (e .0 ≡ n → ⊥) → nameFrom n i ≡ nameFrom n (i + 1)
-  name-behind s = ap (Option·map (λ row. row .name)) (found-behind (ofSheet n) noRow official i (omega (arith, fifteen)) (rw (r .sheet) (ne-eqb (e .0) n s)))
+  pub other-sheet : (e .0 ≡ n → ⊥) → leftFrom (ofSheet n) nameIn i ≡ leftFrom (ofSheet n) nameIn (i + 1)
+  other-sheet s = passed-by (ofSheet n) nameIn i h (rw (r .sheet) (ne-eqb (e .0) n s))
 
--- ---- a loop that looks for a name
-
-abbrev pub sheetFrom : List ℕ → ℕ → Option ℕ
-sheetFrom name i = bind (find (ofName name) (drop i official)) sheetIn
-
-pub sheet-nowhere : (name : List ℕ) (i : ℕ) → 15 ≤ i → sheetFrom name i ≡ none
-unfolding bind
-sheet-nowhere name i h = ap (λ (o : Option Row). bind o sheetIn) (found-nowhere (ofName name) noRow official i (omega (arith, fifteen)))
+-- and for a name, its sheet
+abbrev pub sheetFound : Option Row → Option ℕ
+sheetFound row = bind row sheetIn
 
 module _ (name : List ℕ) (i : ℕ) {e : Entry} (h : i < 15) (r : IsRow (rowAt i) e) {t : Bool} (s : Tells t (SameName name (bytesOf e))) where
   alike : ofName name (rowAt i) ≡ t
   alike = one-saying (ofName name (rowAt i)) t (same-tested name (rowAt i .name)) (rw (r .name) at s)
 
-  pub sheet-here : t ≡ true → sheetFrom name i ≡ some (e .0)
+  pub sheet-here : t ≡ true → leftFrom (ofName name) sheetFound i ≡ some (e .0)
   unfolding bind
-  sheet-here u = ap (λ (o : Option Row). bind o sheetIn) (found-here (ofName name) noRow official i (omega (arith, fifteen)) (alike ∙ u)) ∙ r .sheet
+  sheet-here u = found-at (ofName name) sheetFound i h (alike ∙ u) ∙ r .sheet
 
-  pub sheet-behind : t ≡ false → sheetFrom name i ≡ sheetFrom name (i + 1)
-  sheet-behind u = ap (λ (o : Option Row). bind o sheetIn) (found-behind (ofName name) noRow official i (omega (arith, fifteen)) (alike ∙ u))
+  pub other-name : t ≡ false → leftFrom (ofName name) sheetFound i ≡ leftFrom (ofName name) sheetFound (i + 1)
+  other-name u = passed-by (ofName name) sheetFound i h (alike ∙ u)
 
 -- ---- what is found for a sheet: without a byte it is no name, and otherwise the name's bytes are its first
 

@@ -2,7 +2,7 @@
 use mathlib.Core.Path.{_≡_, refl, sym, ap, _∙_}
 use mathlib.Core.Bool.{Bool, true, false, false≢true, not, _&&_, _||_}
 use mathlib.Core.List.{List}
-use mathlib.Core.Option.{Option, none, some}
+use mathlib.Core.Option.{Option, none, some, Option·some-injective, Option·none-ne-some}
 use Prim.Native.Nat.{ℕ, _≤_, _<_}
 use native.Mathlib.Omega.{arith}
 use borrow.Author.Tests.{eqb-true}
@@ -13,7 +13,7 @@ use Rattle.division.specs.Table.{tableRow, rowsOf, columnsOf}
 use Rattle.division.specs.Sheet.{indexAt, scaleOf}
 use Rattle.division.proofs.TestLaws.{both, between-in}
 use Rattle.division.proofs.MemberLaws.{has-from}
-use Rattle.label.specs.Text.{every, split, value}
+use Rattle.label.specs.Text.{text, every, split, value}
 use Rattle.label.specs.Label.{markOf, countOf, ranges, inRange, placeFrom, scaleWith, formed, sheetNamed, readLabel}
 use Rattle.label.proofs.LabelTheorems.{was-written}
 use Rattle.names.specs.Name.{table, singleIn, joined, SameName, sameBytes}
@@ -33,9 +33,13 @@ at-each test e i h = each-passes test e (has-from 0 15 i (omega arith) (omega ar
 
 -- ---- each label is of a 1:250 000 sheet, and each name could stand in a line
 
-pub is-answer : (p : Paper ℕ) {n : ℕ} → (answered p is? n) ≡ true → p ≡ answer n
-is-answer (answer m) {n} e = ap answer (eqb-true m n e)
-is-answer (refused number value) e = absurd (false≢true e)
+pub from-answered : (p : Paper ℕ) {n : ℕ} → answered p ≡ some n → p ≡ answer n
+from-answered (answer m) {n} e = ap answer (Option·some-injective m n e)
+from-answered (refused number value) {n} e = absurd (Option·none-ne-some n e)
+
+pub is-some : (o : Option ℕ) {n : ℕ} → (o is? n) ≡ true → o ≡ some n
+is-some none e = absurd (false≢true e)
+is-some (some m) {n} e = ap some (eqb-true m n e)
 
 abbrev isSound : Row → Option ℕ → Bool
 isSound row none = false
@@ -43,7 +47,7 @@ isSound row (some n) =
     is250000 n && (isName (row .name) && ((answered (readLine (lineOf row)) is? n) && (hasName (lineOf row) && sameBytes (nameIn (lineOf row)) (row .name))))
 
 all-sound : every (λ i. isSound (rowAt i) (sheetIn (rowAt i))) (from 0 15) ≡ true
-unfolding every from keep tableRow rowsOf columnsOf indexAt scaleOf split value markOf countOf ranges inRange placeFrom scaleWith formed sheetNamed readLabel sameBytes labelIn isName withName readLine utf8 official sheetIn
+unfolding every from keep tableRow rowsOf columnsOf indexAt scaleOf split value markOf countOf ranges inRange placeFrom scaleWith formed sheetNamed readLabel sameBytes labelIn isName withName readLine text utf8 official sheetIn
 all-sound = refl
 
 is-sound : (row : Row) (p : Paper ℕ) → readLabel (row .label) ≡ p → isSound row (answered p) ≡ true → Sound row
@@ -58,7 +62,7 @@ is-sound row (answer n) e t =
       reads = e;
       scale = eqb-true (scaleOf n) 1 (a .0);
       stands = b .0;
-      line = is-answer (readLine l) (c .0);
+      line = from-answered (readLine l) (is-some (answered (readLine l)) (c .0));
       named = d .0;
       name = bytes-tested (nameIn l) (row .name) .yes (d .1);
     }
@@ -70,7 +74,7 @@ sound i h = is-sound (rowAt i) (readLabel (rowAt i .label)) refl (at-each (λ i.
 
 -- in 14 bytes at most
 all-sized : every (λ i. between 1 14 (length (rowAt i .name))) (from 0 15) ≡ true
-unfolding every from utf8 official
+unfolding every from text utf8 official
 all-sized = refl
 
 pub name-sized : (i : ℕ) → i < 15 → (1 ≤ length (rowAt i .name)) × (length (rowAt i .name) ≤ 14)
@@ -96,21 +100,21 @@ one-place by e i j h l s =
     either false f false g t = absurd (bytes-tested (by (rowAt i)) (by (rowAt j)) .no g s)
 
 labels-apart : allApart (λ row. row .label) ≡ true
-unfolding every from sameBytes utf8 official
+unfolding every from sameBytes text utf8 official
 labels-apart = refl
 
 names-apart : allApart (λ row. joined (row .name)) ≡ true
-unfolding every from sameBytes table singleIn joined utf8 official
+unfolding every from sameBytes table singleIn joined text utf8 official
 names-apart = refl
 
 -- "no label occurs twice"
-pub one-label : (i j : ℕ) → i < 15 → j < 15 → rowAt i .label ≡ rowAt j .label → i ≡ j
-one-label = one-place (λ row. row .label) labels-apart
+pub no-two-labels : (i j : ℕ) → i < 15 → j < 15 → rowAt i .label ≡ rowAt j .label → i ≡ j
+no-two-labels = one-place (λ row. row .label) labels-apart
 
 -- "No two of the fifteen names are the same"
-pub one-name : (i j : ℕ) → i < 15 → j < 15 → SameName (rowAt i .name) (rowAt j .name) → i ≡ j
-one-name = one-place (λ row. joined (row .name)) names-apart
+pub no-two-names : (i j : ℕ) → i < 15 → j < 15 → SameName (rowAt i .name) (rowAt j .name) → i ≡ j
+no-two-names = one-place (λ row. joined (row .name)) names-apart
 
 -- so no two rows are of one sheet
 pub one-sheet : (i j n : ℕ) → i < 15 → j < 15 → readLabel (rowAt i .label) ≡ answer n → readLabel (rowAt j .label) ≡ answer n → i ≡ j
-one-sheet i j n h l e f = one-label i j h l (was-written (rowAt i .label) n e .label ∙ sym (was-written (rowAt j .label) n f .label))
+one-sheet i j n h l e f = no-two-labels i j h l (was-written (rowAt i .label) n e .label ∙ sym (was-written (rowAt j .label) n f .label))

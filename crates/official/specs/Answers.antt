@@ -12,10 +12,10 @@ use Rattle.official.specs.declared.Checked.the-variants as checked
 use Rattle.official.specs.Verdict.{Verdict, agrees, differs, notListed}
 
 -- how many bytes of a name were laid into lent room, or "not listed"
-abbrev pub namedPaper : Named → Paper (Option ℕ)
-namedPaper (named.Bytes n) = answer (some n)
-namedPaper named.NotListed = answer none
-namedPaper (named.Refused why) = onPaper why
+abbrev pub namePaper : Named → Paper (Option ℕ)
+namePaper (named.Bytes n) = answer (some n)
+namePaper named.NotListed = answer none
+namePaper (named.Refused why) = onPaper why
 
 abbrev pub listedPaper : Listed → Option ℕ
 listedPaper (listed.Sheet n) = some n

@@ -12,10 +12,11 @@ use Rattle.official.specs.declared.list.Entry.{Entry}
 use Rattle.official.specs.List.{official}
 use Rattle.official.specs.Lookup.{sheetIn}
 
--- the code's list is the paper's: the sheets that the labels name, and the names, whole and not empty
+-- the name in an entry of the code's list
 abbrev pub bytesOf : Entry → List ℕ
 bytesOf e = take (e .1) (e .2)
 
+-- the code's list is the paper's: the names, the sheets that the labels name, and that each name is there, whole and not empty
 pub record AreOfficial (es : List Entry) : Type 0 where
   pub names : map bytesOf es ≡ map (λ row. row .name) official
   pub sheets : map (λ e. some (e .0)) es ≡ map sheetIn official

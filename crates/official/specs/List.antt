@@ -6,11 +6,13 @@ use Prim.Native.String.{String}
 use mathlib.Core.Bool.{cond}
 use mathlib.Core.List.{List, [], _∷_, _++_}
 use Rattle.division.specs.Words.{_<?_}
+use Rattle.label.specs.Text.{text}
 
--- a letter in UTF-8: one byte below 0x80, and two from there on; no letter here takes more
+-- a letter below 0x800 in UTF-8: one byte below 0x80, and two from there on
 abbrev pub inBytes : ℕ → List ℕ
 inBytes c = cond (c <? 0x80) (c ∷ []) ((0xC0 + c / 64) ∷ (0x80 + c % 64) ∷ [])
 
+-- the bytes of a quoted text of such letters
 unfoldable pub utf8 : String → List ℕ
 utf8 quoted.[] = []
 utf8 (quoted._∷_ c s) = inBytes (code c) ++ utf8 s
@@ -22,7 +24,7 @@ pub record Row : Type 0 where
 
 infix 68 _is_
 abbrev pub _is_ : String → String → Row
-label is name = record { label = utf8 label; name = utf8 name }
+label is name = record { label = text label; name = utf8 name }
 
 -- "For 250-105-4 the name column, Prevlaka, decides over the misprint beside it"
 unfoldable pub official : List Row

@@ -16,11 +16,12 @@ unfoldable pub find : {A : Type 0} → (A → Bool) → List A → Option A
 find test [] = none
 find test (x ∷ xs) = cond (test x) (some x) (find test xs)
 
--- the sheet that a row's label names
+-- the answer of a question, none where it is refused
 abbrev pub answered : Paper ℕ → Option ℕ
 answered (answer n) = some n
 answered (refused number value) = none
 
+-- the sheet that a row's label names
 unfoldable pub sheetIn : Row → Option ℕ
 sheetIn row = answered (readLabel (row .label))
 

@@ -1,11 +1,11 @@
 -- The words of the theorems that tie the list and the answers to document 02's sentences. Nothing here is part of a promise.
-use Prim.Native.Nat.{ℕ, _<_}
+use Prim.Native.Nat.{ℕ, _≤_, _<_}
 use Prim.Native.Char.{code}
 use mathlib.Core.Path.{_≡_}
 use mathlib.Core.Bool.{true}
 use mathlib.Core.List.{List, [], _∷_, _++_}
 use mathlib.Core.Option.{none, some}
-use lib.ListN.{getD}
+use lib.ListN.{length, getD}
 use Rattle.refusal.specs.Paper.{answer}
 use Rattle.division.specs.Sheet.{scaleOf}
 use Rattle.label.specs.Label.{readLabel}
@@ -42,7 +42,14 @@ pub record Under (n : ℕ) (name : List ℕ) : Type 0 where
   pub label : readLabel (rowAt place .label) ≡ answer n
   pub is : rowAt place .name ≡ name
 
--- and a name that is the same as this one, by the comparison of c)
+-- .. of so many bytes, for which there is room
+pub record Written (n room count : ℕ) : Type 0 where
+  pub name : List ℕ
+  pub under : Under n name
+  pub long : length name ≡ count
+  pub fits : count ≤ room
+
+-- the list has a name that is the same as this one, by the comparison of c), under a sheet's label
 pub record Called (name : List ℕ) (n : ℕ) : Type 0 where
   pub place : ℕ
   pub listed : place < 15

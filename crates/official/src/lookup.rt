@@ -15,7 +15,7 @@ ghost use lib.ListN.{length};
 ghost use Rattle.refusal.specs.Paper.{roomAfter};
 ghost use Rattle.refusal.specs.Numbers.{laidPaper};
 ghost use Rattle.official.specs.Lookup.{sheetCalled, is250000, writeName, nameTold};
-ghost use Rattle.official.specs.Answers.{namedPaper, listedPaper};
+ghost use Rattle.official.specs.Answers.{namePaper, listedPaper};
 ghost use Rattle.official.specs.Given.{nameLaid};
 
 pub(crate) fn is_250000(sheet: u32) -> bool
@@ -25,7 +25,7 @@ pub(crate) fn is_250000(sheet: u32) -> bool
 }
 
 fn told(laid: Laid) -> Named
-    ensures { λ r. ⌜ namedPaper r ≡ nameLaid (laidPaper laid) ⌝ }
+    ensures { λ r. ⌜ namePaper r ≡ nameLaid (laidPaper laid) ⌝ }
 {
     match laid {
         Laid::Items(n) => Named::Bytes(n),
@@ -35,7 +35,7 @@ fn told(laid: Laid) -> Named
 
 // Writes the official name of a sheet into lent room.
 pub fn official_name(sheet: u32, room: &mut [u8]) -> Named
-    ensures { λ r. ⌜ namedPaper r ≡ nameTold sheet (length (now (room .entry))) ⌝ }
+    ensures { λ r. ⌜ namePaper r ≡ nameTold sheet (length (now (room .entry))) ⌝ }
     ensures { λ r. ⌜ now (room .exit) ≡ roomAfter (writeName sheet (length (now (room .entry)))) (now (room .entry)) ⌝ }
 {
     if !is_sheet(sheet) {

@@ -1,17 +1,14 @@
 -- What is told of an answer is told of the definition that it meets. Assumes nothing.
 use mathlib.Core.Path.{_≡_, refl, sym, ap, _∙_}
 use mathlib.Core.List.{List}
-use mathlib.Core.Option.{Option, Option·getD}
 use Prim.Native.Nat.{ℕ}
 use Rattle.refusal.specs.declared.Refusal.{Refusal}
 use Rattle.refusal.specs.Paper.{Paper, answer, refused, _>>=_, counted}
 use Rattle.refusal.specs.Numbers.{onPaper}
 use Rattle.refusal.proofs.PaperLaws.{on-paper}
-use Rattle.official.specs.Lookup.{writeName, nameTold}
-use Rattle.official.proofs.LookupLaws.{count-told}
 use Rattle.shelf.specs.declared.reading.Read.{Read}
 use Rattle.shelf.specs.Reading.{Reading, endedPaper, IsRead}
-use Rattle.qubathimi_c.specs.Plain.{byteCount, counting, readCount}
+use Rattle.qubathimi_c.specs.Plain.{counting, readCount}
 use Rattle.qubathimi_c.specs.Told.{status, carried}
 
 -- a status, and an answer that is told as a number
@@ -32,18 +29,6 @@ pub told-laid : (q : Paper (List ℕ)) {p : Paper ℕ} {r v : ℕ} {new after : 
 told-laid q l t =
     let s = told (l .0) t in
     (s .0 ∙ counted-status q, (s .1, l .1))
-
--- a number for an answer leaves the status
-number-status : {A B : Type 0} (number : A → B) (p : Paper A) → status (p >>= λ a. answer (number a)) ≡ status p
-number-status number (answer a) = refl
-number-status number (refused n v) = refl
-
--- an official name, or none, which has no bytes
-pub told-name : (n room : ℕ) {p : Paper (Option ℕ)} {r v : ℕ} {new after : List ℕ} → (p ≡ nameTold n room) × (new ≡ after) → (r ≡ status p) × (v ≡ carried (byteCount p)) → (r ≡ status (writeName n room)) × ((v ≡ carried (counted (writeName n room))) × (new ≡ after))
-told-name n room l t =
-    let s = told-by byteCount (l .0) t in
-    let c = count-told n room in
-    (s .0 ∙ sym (number-status (λ count. Option·getD count 0) (nameTold n room)) ∙ ap status c ∙ counted-status (writeName n room), (s .1 ∙ ap carried c, l .1))
 
 -- the arm of a match that is taken has the answer that was matched
 pub arm : {A X : Type 0} (paper : X → Paper A) {a b : X} {d : Paper A} → a ≡ b → paper a ≡ d → paper b ≡ d

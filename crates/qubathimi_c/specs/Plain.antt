@@ -48,9 +48,9 @@ partOf (ofFallback p) = p
 abbrev pub byteCount : Paper (Option ℕ) → Paper ℕ
 byteCount named = named >>= λ count. answer (Option·getD count 0)
 
--- the sheet that has a name: a number that is no sheet for "not listed"
+-- the sheet that has a name, and the mark of none for "not listed"
 abbrev pub sheetOrNone : Option ℕ → ℕ
-sheetOrNone sheet = Option·getD sheet 4_294_967_295
+sheetOrNone sheet = Option·getD sheet (mark None)
 
 -- what is said of the name in a line
 abbrev pub verdictAs : Verdict → ℕ

@@ -66,7 +66,7 @@ pub extern "C" fn qubathimi_offset(a: u32, b: u32, east: &mut i64, south: &mut i
 }
 
 // A number that is no sheet.
-const NONE: u32 = 4_294_967_295;
+pub(crate) const NONE: u32 = 4_294_967_295;
 
 fn mark(place: Neighbour) -> u32
     ensures { λ r. ⌜ r ≡ mark place ⌝ }

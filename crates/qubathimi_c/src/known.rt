@@ -1,4 +1,5 @@
 // Official names.
+use crate::kin::NONE;
 use crate::tell::tell_refusal;
 use official::Checked;
 use official::Listed;
@@ -8,16 +9,16 @@ use official::lookup::official_sheet;
 use official::verdict::official_check;
 ghost use mathlib.Core.Path.{_≡_};
 ghost use lib.ListN.{length};
-ghost use Rattle.refusal.specs.Paper.{counted, roomAfter};
-ghost use Rattle.official.specs.Lookup.{sheetCalled, writeName};
+ghost use Rattle.refusal.specs.Paper.{roomAfter};
+ghost use Rattle.official.specs.Lookup.{sheetCalled, writeName, nameTold};
 ghost use Rattle.official.specs.Verdict.{checkLine};
-ghost use Rattle.official.specs.Answers.{namedPaper, listedPaper, checkedPaper};
+ghost use Rattle.official.specs.Answers.{namePaper, listedPaper, checkedPaper};
 ghost use Rattle.qubathimi_c.specs.Told.{status, carried};
 ghost use Rattle.qubathimi_c.specs.Plain.{byteCount, sheetOrNone, verdictNumber};
 
 fn tell_named(named: Named, value: &mut u64) -> u32
-    ensures { λ r. ⌜ r ≡ status (namedPaper named) ⌝ }
-    ensures { λ _. ⌜ now (value .exit) ≡ carried (byteCount (namedPaper named)) ⌝ }
+    ensures { λ r. ⌜ r ≡ status (namePaper named) ⌝ }
+    ensures { λ _. ⌜ now (value .exit) ≡ carried (byteCount (namePaper named)) ⌝ }
 {
     match named {
         Named::Bytes(n) => {
@@ -32,12 +33,15 @@ fn tell_named(named: Named, value: &mut u64) -> u32
     }
 }
 
+// The mark of no sheet.
+const NO_SHEET: u64 = NONE as u64;
+
 fn tell_listed(listed: Listed, value: &mut u64)
     ensures { λ _. ⌜ now (value .exit) ≡ sheetOrNone (listedPaper listed) ⌝ }
 {
     match listed {
         Listed::Sheet(n) => *value = n as u64,
-        Listed::NotListed => *value = 4294967295,
+        Listed::NotListed => *value = NO_SHEET,
     }
 }
 
@@ -64,8 +68,8 @@ fn tell_checked(checked: Checked, value: &mut u64) -> u32
 
 #[no_mangle]
 pub extern "C" fn qubathimi_official_name(sheet: u32, room: &mut [u8], value: &mut u64) -> u32
-    ensures { λ r. ⌜ r ≡ status (writeName sheet (length (now (room .entry)))) ⌝ }
-    ensures { λ _. ⌜ now (value .exit) ≡ carried (counted (writeName sheet (length (now (room .entry))))) ⌝ }
+    ensures { λ r. ⌜ r ≡ status (nameTold sheet (length (now (room .entry)))) ⌝ }
+    ensures { λ _. ⌜ now (value .exit) ≡ carried (byteCount (nameTold sheet (length (now (room .entry))))) ⌝ }
     ensures { λ _. ⌜ now (room .exit) ≡ roomAfter (writeName sheet (length (now (room .entry)))) (now (room .entry)) ⌝ }
 {
     tell_named(official_name(sheet, room), value)

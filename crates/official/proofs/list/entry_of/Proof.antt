@@ -7,12 +7,13 @@ use borrow.Author.Needs.{needs}
 use lib.ListN.{getD}
 use Rattle.official.specs.Lookup.{nameOf}
 use Rattle.official.specs.Theorems.{rowAt}
-use Rattle.official.proofs.ListLaws.{IsRow, is-row, nameFrom, name-nowhere, name-here, name-behind}
+use Rattle.official.proofs.LookupTheorems.{ofSheet}
+use Rattle.official.proofs.ListLaws.{IsRow, is-row, leftFrom, none-left, nameIn, name-here, other-sheet}
 use Rattle.official.proofs.list.entry_of.Statement.{statement}
 use Rattle.official.proofs.list.entry_of.Tie as tie
 
 abbrev Inv-loop : tie.InvT-loop
-Inv-loop sheet list i₀ i = (i ≤ 15) × (nameOf sheet ≡ nameFrom sheet i)
+Inv-loop sheet list i₀ i = (i ≤ 15) × (nameOf sheet ≡ leftFrom (ofSheet sheet) nameIn i)
 
 abbrev μ-loop : tie.MeasureT-loop
 μ-loop sheet list i₀ i = 15 - i
@@ -50,11 +51,11 @@ loop-again : tie.Need-loop-again Inv-loop μ-loop
 loop-again c =
     let t = c .before .before .before in
     let l = t .before in
-    (omega arith, l .loop .inv .1 ∙ name-behind (l .before .before .args .sheet) (l .loop .i) (omega arith) (row t) (c .if1 .left))
+    (omega arith, l .loop .inv .1 ∙ other-sheet (l .before .before .args .sheet) (l .loop .i) (omega arith) (row t) (c .if1 .left))
 
 returns-2 : tie.Need-returns-2 Inv-loop μ-loop
 returns-2 c =
-    record { is = sym (c .before .loop .inv .1 ∙ name-nowhere (c .before .before .before .args .sheet) (c .before .loop .i) (c .loop-test .left)); fits = omega arith }
+    record { is = sym (c .before .loop .inv .1 ∙ none-left (ofSheet (c .before .before .before .args .sheet)) nameIn (c .before .loop .i) (c .loop-test .left)); fits = omega arith }
 
 pub entry-of-spec : {M : Type 1} → statement M
 entry-of-spec =

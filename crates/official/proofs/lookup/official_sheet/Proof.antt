@@ -1,6 +1,7 @@
 -- The entries passed have other names, so the sheet is among those that are left. The measure is what is left. Assumes nothing.
 use mathlib.Core.Path.{_≡_, refl, sym, _∙_}
 use mathlib.Core.List.{[]}
+use mathlib.Core.Option.{bind}
 use Prim.Native.Nat.{_-_, _≤_}
 use native.Mathlib.Omega.{arith}
 use borrow.Author.Needs.{needs}
@@ -8,12 +9,13 @@ use lib.ListN.{getD}
 use lib.Seq.{length-take-le}
 use Rattle.official.specs.Lookup.{sheetCalled}
 use Rattle.official.specs.Theorems.{rowAt}
-use Rattle.official.proofs.ListLaws.{IsRow, is-row, sheetFrom, sheet-nowhere, sheet-here, sheet-behind}
+use Rattle.official.proofs.LookupTheorems.{ofName}
+use Rattle.official.proofs.ListLaws.{IsRow, is-row, leftFrom, none-left, sheetFound, sheet-here, other-name}
 use Rattle.official.proofs.lookup.official_sheet.Statement.{statement}
 use Rattle.official.proofs.lookup.official_sheet.Tie as tie
 
 abbrev Inv-loop : tie.InvT-loop
-Inv-loop name list i₀ i = (i ≤ 15) × (sheetCalled name ≡ sheetFrom name i)
+Inv-loop name list i₀ i = (i ≤ 15) × (sheetCalled name ≡ leftFrom (ofName name) sheetFound i)
 
 abbrev μ-loop : tie.MeasureT-loop
 μ-loop name list i₀ i = 15 - i
@@ -60,10 +62,11 @@ loop-again : tie.Need-loop-again Inv-loop μ-loop
 loop-again c =
     let t = c .before .before .before .before .before in
     let l = t .before in
-    (omega arith, l .loop .inv .1 ∙ sheet-behind (l .before .before .before .args .name .now) (l .loop .i) (omega arith) (row t) (c .before .same-name .ensures) (c .if1 .left))
+    (omega arith, l .loop .inv .1 ∙ other-name (l .before .before .before .args .name .now) (l .loop .i) (omega arith) (row t) (c .before .same-name .ensures) (c .if1 .left))
 
 returns-2 : tie.Need-returns-2 Inv-loop μ-loop
-returns-2 c = sym (c .before .loop .inv .1 ∙ sheet-nowhere (c .before .before .before .before .args .name .now) (c .before .loop .i) (c .loop-test .left))
+unfolding bind
+returns-2 c = sym (c .before .loop .inv .1 ∙ none-left (ofName (c .before .before .before .before .args .name .now)) sheetFound (c .before .loop .i) (c .loop-test .left))
 
 pub official-sheet-spec : {M : Type 1} → statement M
 official-sheet-spec =

@@ -2,6 +2,7 @@
 use mathlib.Core.Path.{_≡_}
 use borrow.Author.Needs.{needs}
 use Rattle.refusal.specs.Paper.{answer}
+use Rattle.refusal.specs.Numbers.{onPaper}
 use Rattle.refusal.proofs.PaperLaws.{asked-on}
 use Rattle.catalogue.specs.Line.{readLine}
 use Rattle.official.specs.Verdict.{checkAt, checkLine}
@@ -30,7 +31,10 @@ returns c = rw (← read (c .before)) (c .check-at .ensures)
 
 returns-2 : tie.Need-returns-2
 unfolding checkLine
-returns-2 c = asked-on (c .before .why .given .0 .0) (checkAt _) (rw (c .before .why .given .1) at (c .before .before .before .read-line .ensures))
+returns-2 c =
+    let line = c .before .before .before .before .before .args .line .now in
+    let e : onPaper (c .before .why .given .0 .0) ≡ readLine line = rw (c .before .why .given .1) at (c .before .before .before .read-line .ensures) in
+    asked-on (c .before .why .given .0 .0) (checkAt line) e
 
 pub official-check-spec : {M : Type 1} → statement M
 official-check-spec =

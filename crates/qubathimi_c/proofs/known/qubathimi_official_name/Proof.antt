@@ -1,7 +1,7 @@
 -- The answer is told as it is. Assumes nothing.
-use lib.ListN.{length}
 use borrow.Author.Needs.{needs}
-use Rattle.qubathimi_c.proofs.TellLaws.{told-name}
+use Rattle.qubathimi_c.specs.Plain.{byteCount}
+use Rattle.qubathimi_c.proofs.TellLaws.{told-by}
 use Rattle.qubathimi_c.proofs.known.qubathimi_official_name.Statement.{statement}
 use Rattle.qubathimi_c.proofs.known.qubathimi_official_name.Tie as tie
 
@@ -16,9 +16,9 @@ same-length c = search needs
 
 returns : tie.Need-returns
 returns c =
-    let w = c .before .before .before .before in
-    let a = w .before .before .before .args in
-    told-name (a .sheet) (length (a .room .now)) (w .official-name .ensures) (c .tell-named .ensures)
+    let w = c .before .before .before .before .official-name .ensures in
+    let t = told-by byteCount (w .0) (c .tell-named .ensures) in
+    (t .0, (t .1, w .1))
 
 pub qubathimi-official-name-spec : {M : Type 1} → statement M
 qubathimi-official-name-spec =
