@@ -2,14 +2,13 @@
 use mathlib.Core.Path.{_≡_, refl, sym, ap, _∙_, subst}
 use mathlib.Core.Logic.{⊎-elim}
 use mathlib.Core.Bool.{Bool, true, false}
-use mathlib.Core.List.{map}
-use Prim.Native.Nat.{ℕ, zero, suc, _+_, _-_, _*_, _≤_, _<_}
+use Prim.Native.Nat.{ℕ, zero, suc, _+_, _*_, _≤_, _<_}
 use native.Mathlib.Nat.{eq-or-lt-of-le, le-of-suc-le-suc, mul-le-mul}
 use native.Mathlib.Omega.{arith}
 use borrow.Author.Tests.{leb-true, leb-false, le-leb}
-use lib.ListN.{getD, List·getD-eq-default}
+use lib.ListN.{List·getD-eq-default}
 use Rattle.division.specs.Words.{_≤?_, _=?_, from, keep}
-use Rattle.division.specs.Table.{isScale, Made, TableRow, sideOf, ofArea, ofScale, table, tableRow, rowsOf, columnsOf, width, height, made, rows, columns, parentScale, side, parts, sheets, first, codeRow, theScale}
+use Rattle.division.specs.Table.{isScale, Made, TableRow, sideOf, ofArea, ofScale, table, tableRow, rowsOf, columnsOf, width, height, made, rows, columns, parentScale, side, parts, sheets, first, theScale}
 use Rattle.division.specs.Given.{IsScale}
 use Rattle.division.proofs.TestLaws.{both}
 use Rattle.division.proofs.MadeLaws.{Sound}
@@ -57,8 +56,6 @@ pub record Rules (s : ℕ) : Type 0 where
   pub sound : Sound (made s)
   -- the width tells the scale
   pub told : theScale (λ t. width t =? width s) ≡ s
-  -- its row stands where the code's table has it
-  pub listed : getD (map codeRow (from 1 9)) (s - 1) (codeRow 0) ≡ codeRow s
 
 nine : Each Rules 9
 unfolding table tableRow rowsOf columnsOf from keep

@@ -114,7 +114,7 @@ first s = tableRow s .first
 abbrev pub last : ℕ → ℕ
 last s = first s + sheets s - 1
 
--- the same row as the code's table has it, with all that follows from "made by" written out
+-- the same row as the code has it, with all that follows from "made by" written out
 abbrev pub codeRow : ℕ → Row
 codeRow s = record {
   width = width s;

@@ -5,8 +5,19 @@ ghost use mathlib.Core.Path.{_≡_};
 ghost use Rattle.division.specs.Table.{isScale, codeRow, width, height, first, last};
 ghost use Rattle.division.specs.Sheet.{scaleOf};
 
-// What belongs to a scale. Width and height are metres. Parts is the number of parts per parent, side how many of them lie each way (4
-// and 2 for 2 x 2), and parent the scale that it is made from; all three are 0 where it is made from the area.
+// What the table has of a scale. Width and height are metres. Parts is the number of parts per parent, side how many of them lie each way
+// (4 and 2 for 2 x 2), and parent the scale that it is made from; all three are 0 where it is made from the area.
+struct Entry {
+    width: u32,
+    height: u32,
+    rows: u32,
+    columns: u32,
+    parts: u32,
+    side: u32,
+    parent: u32,
+}
+
+// What belongs to a scale: its entry, and its first sheet number.
 pub struct Row {
     pub width: u32,
     pub height: u32,
@@ -18,8 +29,9 @@ pub struct Row {
     pub first: u32,
 }
 
-const TABLE: [Row; 9] = [
-    Row {
+// The nine entries, that of scale 1 at place 0.
+const TABLE: [Entry; 9] = [
+    Entry {
         width: 150_000,
         height: 100_000,
         rows: 6,
@@ -27,9 +39,8 @@ const TABLE: [Row; 9] = [
         parts: 0,
         side: 0,
         parent: 0,
-        first: 0,
     },
-    Row {
+    Entry {
         width: 60_000,
         height: 40_000,
         rows: 15,
@@ -37,9 +48,8 @@ const TABLE: [Row; 9] = [
         parts: 0,
         side: 0,
         parent: 0,
-        first: 24,
     },
-    Row {
+    Entry {
         width: 30_000,
         height: 20_000,
         rows: 30,
@@ -47,9 +57,8 @@ const TABLE: [Row; 9] = [
         parts: 0,
         side: 0,
         parent: 0,
-        first: 174,
     },
-    Row {
+    Entry {
         width: 15_000,
         height: 10_000,
         rows: 60,
@@ -57,9 +66,8 @@ const TABLE: [Row; 9] = [
         parts: 4,
         side: 2,
         parent: 3,
-        first: 774,
     },
-    Row {
+    Entry {
         width: 6_000,
         height: 4_000,
         rows: 150,
@@ -67,9 +75,8 @@ const TABLE: [Row; 9] = [
         parts: 25,
         side: 5,
         parent: 3,
-        first: 3_174,
     },
-    Row {
+    Entry {
         width: 3_000,
         height: 2_000,
         rows: 300,
@@ -77,9 +84,8 @@ const TABLE: [Row; 9] = [
         parts: 25,
         side: 5,
         parent: 4,
-        first: 18_174,
     },
-    Row {
+    Entry {
         width: 1_200,
         height: 800,
         rows: 750,
@@ -87,9 +93,8 @@ const TABLE: [Row; 9] = [
         parts: 625,
         side: 25,
         parent: 3,
-        first: 78_174,
     },
-    Row {
+    Entry {
         width: 600,
         height: 400,
         rows: 1_500,
@@ -97,9 +102,8 @@ const TABLE: [Row; 9] = [
         parts: 4,
         side: 2,
         parent: 7,
-        first: 453_174,
     },
-    Row {
+    Entry {
         width: 300,
         height: 200,
         rows: 3_000,
@@ -107,9 +111,27 @@ const TABLE: [Row; 9] = [
         parts: 4,
         side: 2,
         parent: 8,
-        first: 1_953_174,
     },
 ];
+
+// A scale's first sheet number is the number of sheets of all the scales before it, so that each begins where the one before it ends.
+const FIRST_1: u32 = 0;
+
+const FIRST_2: u32 = FIRST_1 + TABLE[0].rows * TABLE[0].columns;
+
+const FIRST_3: u32 = FIRST_2 + TABLE[1].rows * TABLE[1].columns;
+
+const FIRST_4: u32 = FIRST_3 + TABLE[2].rows * TABLE[2].columns;
+
+const FIRST_5: u32 = FIRST_4 + TABLE[3].rows * TABLE[3].columns;
+
+const FIRST_6: u32 = FIRST_5 + TABLE[4].rows * TABLE[4].columns;
+
+const FIRST_7: u32 = FIRST_6 + TABLE[5].rows * TABLE[5].columns;
+
+const FIRST_8: u32 = FIRST_7 + TABLE[6].rows * TABLE[6].columns;
+
+const FIRST_9: u32 = FIRST_8 + TABLE[7].rows * TABLE[7].columns;
 
 const NO_ROW: Row = Row {
     width: 0,
@@ -122,13 +144,41 @@ const NO_ROW: Row = Row {
     first: 0,
 };
 
+impl Entry {
+    // The row of a scale whose first sheet number is `first`.
+    fn with_first(self, first: u32) -> Row
+        ensures { λ r. ⌜ r ≡ record {
+          width = self .width;
+          height = self .height;
+          rows = self .rows;
+          columns = self .columns;
+          parts = self .parts;
+          side = self .side;
+          parent = self .parent;
+          first = first;
+        } ⌝ }
+    {
+        Row {
+            width: self.width,
+            height: self.height,
+            rows: self.rows,
+            columns: self.columns,
+            parts: self.parts,
+            side: self.side,
+            parent: self.parent,
+            first: first,
+        }
+    }
+}
+
 // A number given as a scale: 1 to 9 are the scales, and of any other number each answer is 0.
 pub struct Scale(pub u32);
 
 impl Scale {
+    // The last scale, and its last sheet.
     pub const LAST: u32 = 9;
 
-    pub const LAST_SHEET: u32 = 7_953_173;
+    pub const LAST_SHEET: u32 = FIRST_9 + TABLE[8].rows * TABLE[8].columns - 1;
 
     // The scale of a sheet; of a number that is no sheet, no scale.
     pub fn of(sheet: u32) -> Scale
@@ -148,15 +198,15 @@ impl Scale {
         let s = self.0;
         let table = TABLE;
         match s {
-            1 => table[0],
-            2 => table[1],
-            3 => table[2],
-            4 => table[3],
-            5 => table[4],
-            6 => table[5],
-            7 => table[6],
-            8 => table[7],
-            9 => table[8],
+            1 => table[0].with_first(FIRST_1),
+            2 => table[1].with_first(FIRST_2),
+            3 => table[2].with_first(FIRST_3),
+            4 => table[3].with_first(FIRST_4),
+            5 => table[4].with_first(FIRST_5),
+            6 => table[5].with_first(FIRST_6),
+            7 => table[6].with_first(FIRST_7),
+            8 => table[7].with_first(FIRST_8),
+            9 => table[8].with_first(FIRST_9),
             _ => NO_ROW,
         }
     }
