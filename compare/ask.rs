@@ -37,6 +37,8 @@ pub enum Question {
     OfficialName { sheet: u32, room: usize },
     OfficialSheet { name: Vec<u8> },
     OfficialCheck { line: Vec<u8> },
+    LocalToSheet { municipality: Vec<u32>, n: u32, a: u32, b: u32 },
+    SheetToLocal { municipality: Vec<u32>, sheet: u32 },
 }
 
 #[derive(Clone, Copy, PartialEq)]
@@ -47,7 +49,7 @@ enum Room {
 }
 
 /// Of each kind of question, in order: the function, how many numbers it gives, and the room that is lent to it.
-const KINDS: [(&str, usize, Room); 28] = [
+const KINDS: [(&str, usize, Room); 30] = [
     ("width, height, rows, columns, first, last", 6, Room::None),
     ("scale_of", 0, Room::None),
     ("locate", 3, Room::None),
@@ -76,12 +78,14 @@ const KINDS: [(&str, usize, Room); 28] = [
     ("official_name", 1, Room::Bytes),
     ("official_sheet", 1, Room::None),
     ("official_check", 1, Room::None),
+    ("local_to_sheet", 1, Room::None),
+    ("sheet_to_local", 3, Room::None),
 ];
 
 /// The kinds whose numbers are floats.
 const IN_METRES: [usize; 2] = [23, 25];
 /// The results that there are: 0, and the numbers of refusal.
-const RESULTS: usize = 23;
+const RESULTS: usize = 24;
 
 const GUARD: usize = 8;
 const NONE: u32 = u32::MAX;
@@ -189,6 +193,8 @@ impl Question {
             Question::OfficialName { .. } => 26,
             Question::OfficialSheet { .. } => 27,
             Question::OfficialCheck { .. } => 28,
+            Question::LocalToSheet { .. } => 29,
+            Question::SheetToLocal { .. } => 30,
         }
     }
 
@@ -269,6 +275,14 @@ impl Question {
             Question::ReadList { list, room } => {
                 bytes(to, list);
                 numbers(to, &[*room as u32]);
+            }
+            Question::LocalToSheet { municipality, n, a, b } => {
+                set(to, municipality);
+                numbers(to, &[*n, *a, *b]);
+            }
+            Question::SheetToLocal { municipality, sheet } => {
+                set(to, municipality);
+                numbers(to, &[*sheet]);
             }
         }
     }
@@ -366,6 +380,13 @@ impl Question {
             Question::OfficialSheet { name } => form.value(Ok(division.official_sheet(name).unwrap_or(NONE))),
             // The header: 0 agrees, 1 differs, 2 not listed, which is how they stand in order.
             Question::OfficialCheck { line } => form.value(division.official_check(line).map(|said| said as u32)),
+            Question::LocalToSheet { municipality, n, a, b } => form.value(division.local_to_sheet(municipality, *n, *a, *b)),
+            Question::SheetToLocal { municipality, sheet } => {
+                // The header: of the three numbers, absent ones are 0.
+                let local = division.sheet_to_local(municipality, *sheet);
+                let three = local.map(|numbers| [0, 1, 2].map(|place| numbers.get(place).map_or(0, |&number| number as u64)));
+                form.several(three, |salt, k| mark_u32(salt, k) as u64);
+            }
         }
     }
 }

@@ -408,6 +408,22 @@ static void answer(void) {
         begin(kind, a);
         put_out(1);
         break;
+    case 29:
+        set = take_sheets(&m);
+        a = take_u32();
+        b = take_u32();
+        c = take_u32();
+        a = qubathimi_local_to_sheet(set, m, a, b, c, at(0));
+        begin(kind, a);
+        put_out(1);
+        break;
+    case 30:
+        set = take_sheets(&m);
+        a = take_u32();
+        a = qubathimi_sheet_to_local(set, m, a, small_at(0), small_at(1), small_at(2));
+        begin(kind, a);
+        for (int k = 0; k < 3; k++) put(*small_at(k), 8);
+        break;
     default:
         broken = 1;
         return;

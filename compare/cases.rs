@@ -7,12 +7,12 @@
 //!     cases rows                 the rows of the catalogue on standard input
 //!     cases lines COUNT SEED     a catalogue of so many lines, nine in ten of them good (compare/lines.rs)
 //!
-//! A line of crates/cases/stdin is a question: a word, of which crates/cases reads the first letter, and what follows. Sheets are told by
-//! their numbers, points and edges in millimetres, and bytes in hexadecimal. A float, of `quad` and `under` alone, is told by its bits:
-//! those below the sign as a whole number, with a minus in front where the sign is set, so that 4692333547057315840 is 500 000.0 and -0 is
-//! -0.0. The line of crates/cases/stdout is the question, a colon and the answer. A refusal is told by its number, and what it carries: 10
-//! the room needed, and 4, 19, 20, 21 and 5 the place in the label, also where it is 0. Of more than forty bytes or sheets only the sum is
-//! told, and a sum is always one over the bytes that would be written.
+//! A line of crates/cases/stdin is a question: a word, of which crates/cases reads the first letter, a small one or a capital, and what
+//! follows. Sheets are told by their numbers, points and edges in millimetres, and bytes in hexadecimal. A float, of `quad` and `under`
+//! alone, is told by its bits: those below the sign as a whole number, with a minus in front where the sign is set, so that
+//! 4692333547057315840 is 500 000.0 and -0 is -0.0. The line of crates/cases/stdout is the question, a colon and the answer. A refusal is
+//! told by its number, and what it carries: 10 the room needed, and 4, 19, 20, 21 and 5 the place in the label, also where it is 0. Of more
+//! than forty bytes or sheets only the sum is told, and a sum is always one over the bytes that would be written.
 //!
 //!     table 3                   of the scale: width and height in metres, first and last sheet; and the last scale and
 //!                               the last sheet of all
@@ -58,6 +58,15 @@
 //!     identify 0 566973         the sheet that has the bytes as its official name, or not listed; the number is always 0
 //!     yours 0 35302d3130312d31  what the official names say of the bytes as a catalogue line: agrees, differs or not
 //!                               listed; the number is always 0
+//!     Local 2 4 0 78199 3 78198 78199 78799
+//!                               in the municipality of so many sheets, here three, the sheet that has the three local
+//!                               numbers, absent ones 0; and the local numbers of the sheet behind them, here 78199,
+//!                               only those that are there
+//!     Municipality 2 4 0 78199 78174 25 400
+//!                               the same in the municipality of sheets by a rule, as in `rule`, told by the first, the
+//!                               step and the count
+//!     Municipality 2 4 0 78199 78174 25 400 7 5
+//!                               the same with another number in a place, as in `rule`
 //!
 //! The questions that are stored there try, beside the examples: every border by one before, on and behind it (the area's and the sheets'
 //! edges by a millimetre and in metres by a float, the grids' ends, each scale's first and last sheet, each field's range, each length of a
@@ -66,8 +75,9 @@
 //! sheet; labels as the sources print them, with each kind of fault at each place, and with strange bytes; lists that are cut, badly
 //! written, too long or wrongly counted; two faults at once, for the order of refusals; names in both spellings and in a mixture, letters
 //! and marks that are not joined, marks that stand alone, twice, apart or broken, and names of unequal length that are the same; the
-//! fifteen official names, each with its sheet, with others and with slips, and lines of every scale and with every kind of fault; and some
-//! by chance.
+//! fifteen official names, each with its sheet, with others and with slips, and lines of every scale and with every kind of fault;
+//! municipalities of 1 to 400 sheets and of none or too many, within a 1:50 000 sheet and across several, with each kind of fault at each
+//! place, and sheets and local numbers beside theirs; and some by chance.
 //!
 //! The lines of compare/examples.txt are document 01's examples and cases of document 02, question and answer written out by hand: these
 //! answers are not asked of the paper, but must be its own.
@@ -150,6 +160,22 @@ fn told_floats(answer: Answer<[u64; 6]>) -> String {
 /// The sheets of a rule: the first, and each later one so far from the one before, in 32 bits.
 fn ruled(first: u32, step: u32, count: usize) -> Vec<u32> {
     (0..count as u32).map(|k| first.wrapping_add(step.wrapping_mul(k))).collect()
+}
+
+/// The same, with another number in a place counted from 1 where one is told; none where it is not told so.
+fn ruled_but(first: i64, step: i64, count: i64, other: &[i64]) -> Option<Vec<u32>> {
+    let mut sheets = ruled(first as u32, step as u32, count as usize);
+    match *other {
+        [] => {}
+        [place, number] => *sheets.get_mut((place as usize).checked_sub(1)?)? = number as u32,
+        _ => return None,
+    }
+    Some(sheets)
+}
+
+/// Numbers in 32 bits.
+fn narrow(numbers: &[i64]) -> Vec<u32> {
+    numbers.iter().map(|&number| number as u32).collect()
 }
 
 fn alike(one: &[u8], other: &[u8]) -> String {
@@ -270,6 +296,12 @@ impl Paper {
         self.0.official_sheet(name).map_or("not listed".to_string(), |sheet| sheet.to_string())
     }
 
+    fn local(&self, asked: [i64; 4], municipality: &[u32]) -> String {
+        let [n, a, b, sheet] = asked.map(|number| number as u32);
+        let local = self.0.sheet_to_local(municipality, sheet);
+        format!("{}, {}", told(self.0.local_to_sheet(municipality, n, a, b)), told(local.map(spaced)))
+    }
+
     /// The answer to a question; none where it is no question.
     fn answer(&self, question: &str) -> Option<String> {
         let (word, rest) = question.split_once(' ')?;
@@ -311,20 +343,16 @@ impl Paper {
             ("every", &[first, last, far]) => self.every(first as u32, last as u32, far as u32),
             ("write", &[sheet, room]) => self.write_label(sheet as u32, room as usize),
             ("groups", &[number]) => paper::groups(number as u32).to_string(),
-            ("pack", &[room, count, ref sheets @ ..]) if sheets.len() == count as usize => {
-                self.write_list(&sheets.iter().map(|&sheet| sheet as u32).collect::<Vec<_>>(), room as usize)
-            }
-            ("rule", &[room, first, step, count, ref other @ ..]) => {
-                let mut sheets = ruled(first as u32, step as u32, count as usize);
-                match *other {
-                    [] => {}
-                    [place, number] => *sheets.get_mut(place as usize - 1)? = number as u32,
-                    _ => return None,
-                }
-                self.write_list(&sheets, room as usize)
-            }
+            ("pack", &[room, count, ref sheets @ ..]) if sheets.len() == count as usize => self.write_list(&narrow(sheets), room as usize),
+            ("rule", &[room, first, step, count, ref other @ ..]) => self.write_list(&ruled_but(first, step, count, other)?, room as usize),
             ("many", &[first, step, below]) => self.many(first as u32, step as u32, below as usize),
             ("known", &[sheet, room @ 0..=NAME_ROOM]) => self.known(sheet as u32, room as usize),
+            ("Local", &[n, a, b, sheet, count, ref sheets @ ..]) if sheets.len() == count as usize => {
+                self.local([n, a, b, sheet], &narrow(sheets))
+            }
+            ("Municipality", &[n, a, b, sheet, first, step, count, ref other @ ..]) => {
+                self.local([n, a, b, sheet], &ruled_but(first, step, count, other)?)
+            }
             _ => return None,
         })
     }

@@ -883,6 +883,65 @@ impl Division {
     }
 }
 
+// ---- Document 02, f) "Local labels for cadastral municipalities" ----
+
+/// "Lend the municipality as a rising list of 1 to 400 sheet numbers."
+pub const MOST_OF_MUNICIPALITY: usize = 400;
+
+impl Division {
+    /// The 1:2 000 sheets of a municipality as they are numbered: "by rows, left to right, starting with the first sheet of the top row",
+    /// and "Rows are rows of the whole grid". Refusals: "23 for an empty or too long list; then its first faulty place, with 3, 23 (a sheet
+    /// of another scale) and 15 in that order".
+    fn by_rows(&self, municipality: &[u32]) -> Answer<Vec<u32>> {
+        if municipality.is_empty() || municipality.len() > MOST_OF_MUNICIPALITY {
+            return refuse(23);
+        }
+        for (place, &sheet) in municipality.iter().enumerate() {
+            if scale_of(sheet)? != 7 {
+                return refuse(23);
+            }
+            if place > 0 && sheet <= municipality[place - 1] {
+                return refuse(15);
+            }
+        }
+        let mut sheets = municipality.to_vec();
+        sheets.sort_by_key(|&sheet| (self.sheets[sheet as usize].row, self.sheets[sheet as usize].column));
+        Ok(sheets)
+    }
+
+    /// "local numbers to sheet": those of the list, then 6 for "a local number that none of its sheets has". Local numbers are n, or n and
+    /// a, or n, a and b; an absent one is 0, which is no number of a part, so that b alone leads to none.
+    pub fn local_to_sheet(&self, municipality: &[u32], n: u32, a: u32, b: u32) -> Answer<u32> {
+        let sheets = self.by_rows(municipality)?;
+        let Some((_, &sheet)) = (1..).zip(&sheets).find(|&(number, _)| number == n) else {
+            return refuse(6);
+        };
+        match (a, b) {
+            (0, 0) => Ok(sheet),
+            (a, 0) => self.child(sheet, 8, a),
+            (a, b) => self.child(self.child(sheet, 8, a)?, 9, b),
+        }
+    }
+
+    /// "sheet to local numbers", one to three of them: those of the list, "then 3 and 6 for what is asked". "a 1:1 000 sheet adds its
+    /// number in that sheet, a 1:500 sheet one more": the way up leads to a 1:2 000 sheet, or the sheet is of none, and so not of this
+    /// municipality.
+    pub fn sheet_to_local(&self, municipality: &[u32], sheet: u32) -> Answer<Vec<u32>> {
+        let sheets = self.by_rows(municipality)?;
+        let mut numbers = Vec::new();
+        let mut whole = sheet;
+        while scale_of(whole)? > 7 {
+            numbers.insert(0, self.number(whole));
+            whole = self.parent(whole)?;
+        }
+        let Some((number, _)) = (1..).zip(&sheets).find(|&(_, &own)| own == whole) else {
+            return refuse(6);
+        };
+        numbers.insert(0, number);
+        Ok(numbers)
+    }
+}
+
 // ---- "Table of examples" and "Slips that look right", with readings of open points ----
 
 #[cfg(test)]
@@ -1513,6 +1572,169 @@ mod tests {
         for (label, number, place) in faults {
             for tail in ["", " ", " Prevlaka", "  Prevlaka"] {
                 assert_eq!(check(&format!("{label}{tail}")), refuse_at(number, place));
+            }
+        }
+    }
+
+    // ---- Document 02, f) ----
+
+    fn sheets_of<const N: usize>(labels: [&str; N]) -> [u32; N] {
+        labels.map(|label| read(label).expect("a label"))
+    }
+
+    /// The sheets in the order in which they are lent.
+    fn lent(sheets: &[u32]) -> Vec<u32> {
+        let mut sheets = sheets.to_vec();
+        sheets.sort();
+        sheets
+    }
+
+    /// Asks both ways.
+    fn hold_local(municipality: &[u32], sheet: u32, numbers: &[u32]) {
+        let [n, a, b] = [0, 1, 2].map(|place| numbers.get(place).copied().unwrap_or(0));
+        assert_eq!(division().sheet_to_local(municipality, sheet), Ok(numbers.to_vec()));
+        assert_eq!(division().local_to_sheet(municipality, n, a, b), Ok(sheet));
+    }
+
+    #[test]
+    fn local_numbers() {
+        let three = lent(&sheets_of(["2-25-101-1", "2-1-101-2", "2-26-101-1"]));
+        assert_eq!(three, [78_198, 78_199, 78_799]);
+        let cases: [(&str, &[u32]); 11] = [
+            ("2-25-101-1", &[1]), ("2-1-101-2", &[2]), ("2-26-101-1", &[3]), ("1-1-25-101-1", &[1, 1]), ("1-4-1-101-2", &[2, 4]),
+            ("1-2-26-101-1", &[3, 2]), ("1-3-26-101-1", &[3, 3]), ("5-1-1-25-101-1", &[1, 1, 1]), ("5-4-3-1-101-2", &[2, 3, 4]),
+            ("5-2-4-26-101-1", &[3, 4, 2]), ("5-4-4-26-101-1", &[3, 4, 4]),
+        ];
+        for (label, numbers) in cases {
+            hold_local(&three, read(label).expect("a label"), numbers);
+        }
+        // Where four 1:50 000 sheets meet, two rows and two columns of each.
+        let numbered = sheets_of([
+            "2-599-101-1", "2-600-101-1", "2-576-101-2", "2-577-101-2", "2-624-101-1", "2-625-101-1", "2-601-101-2", "2-602-101-2",
+            "2-24-102-1", "2-25-102-1", "2-1-102-2", "2-2-102-2", "2-49-102-1", "2-50-102-1", "2-26-102-2", "2-27-102-2",
+        ]);
+        let sixteen = lent(&numbered);
+        assert!(numbered != sixteen[..]);
+        for (n, sheet) in (1..).zip(numbered) {
+            hold_local(&sixteen, sheet, &[n]);
+        }
+        // The first and the last sheet of the scale, alone and together, and the last of all.
+        let [first, last] = sheets_of(["2-1-101-1", "2-625-130-20"]);
+        assert_eq!((first, last), (78_174, 453_173));
+        for (municipality, n) in [(&[last][..], 1), (&[first, last], 2)] {
+            hold_local(municipality, municipality[0], &[1]);
+            hold_local(municipality, last, &[n]);
+            hold_local(municipality, LAST_SHEET, &[n, 4, 4]);
+        }
+    }
+
+    /// "each undoing the other for every sheet of the municipality at scales 7, 8 and 9", "numbered from 1 to n by rows", and "a local
+    /// number that none of its sheets has, gets 6".
+    #[test]
+    fn both_ways() {
+        let on = |(row, column): (i128, i128)| division().sheet_on(7, row, column).expect("a sheet");
+        let block = |row: i128, column: i128, rows: i128, columns: i128| {
+            (row..row + rows).flat_map(move |row| (column..column + columns).map(move |column| (row, column)))
+        };
+        let holes = |&(row, column): &(i128, i128)| (3 * row + 5 * column) % 7 > 1;
+        let municipalities: [Vec<u32>; 9] = [
+            block(0, 0, 1, 1).map(on).collect(),
+            block(749, 498, 1, 2).map(on).collect(),
+            block(40, 45, 8, 10).map(on).collect(),
+            block(45, 30, 10, 8).map(on).collect(),
+            block(90, 90, 20, 20).map(on).collect(),
+            block(360, 240, 22, 25).filter(holes).map(on).collect(),
+            block(700, 70, 1, 400).map(on).collect(),
+            block(70, 474, 399, 1).map(on).collect(),
+            (0..400).map(|k| on((k * k * 7 % 750, k * 11 % 500))).collect(),
+        ];
+        for sheets in municipalities {
+            let municipality = lent(&sheets);
+            let count = municipality.len() as u32;
+            let mut found = Vec::new();
+            for (n, a, b) in (0..=count + 1).flat_map(|n| (0..=5).flat_map(move |a| (0..=5).map(move |b| (n, a, b)))) {
+                let numbers: Vec<u32> = [n, a, b].into_iter().filter(|&number| number > 0).collect();
+                if n == 0 || n > count || a > 4 || b > 4 || (a == 0 && b > 0) {
+                    assert_eq!(division().local_to_sheet(&municipality, n, a, b), refuse(6));
+                } else {
+                    let sheet = division().local_to_sheet(&municipality, n, a, b).expect("a sheet");
+                    hold_local(&municipality, sheet, &numbers);
+                    found.push((sheet, numbers));
+                }
+            }
+            // A row is told by its north edge, and the place in it by the west edge.
+            let edges = |sheet: u32| division().frame(sheet).map(|frame| (-frame.north, frame.west)).expect("a frame");
+            let whole: Vec<u32> = found.iter().filter(|(_, numbers)| numbers.len() == 1).map(|&(sheet, _)| sheet).collect();
+            assert!(whole.windows(2).all(|two| edges(two[0]) < edges(two[1])));
+            assert_eq!(lent(&whole), municipality);
+            found.sort();
+            found.dedup_by_key(|(sheet, _)| *sheet);
+            assert_eq!(found.len(), 21 * municipality.len());
+        }
+    }
+
+    /// "A sheet outside it, or a local number that none of its sheets has, gets 6", and a number that is no sheet 3.
+    #[test]
+    fn outside_municipalities() {
+        let three = sheets_of(["2-25-101-1", "2-26-101-1", "2-1-101-2"]);
+        let outside = [
+            "2-24-101-1", "2-27-101-1", "2-50-101-1", "2-2-101-2", "2-26-101-2", "1-4-24-101-1", "1-1-27-101-1", "1-1-2-101-2",
+            "5-4-4-24-101-1", "5-1-1-27-101-1", "5-1-1-2-101-2", "250-101-1", "100-101-1", "50-101-1", "50-101-2", "25-2-101-1",
+            "10-5-101-1", "5-5-2-101-1", "2-625-130-20", "1-4-625-130-20", "5-4-4-625-130-20",
+        ];
+        for sheet in sheets_of(outside).into_iter().chain([0, 1, 24, 78_173]) {
+            assert_eq!(division().sheet_to_local(&three, sheet), refuse(6), "{sheet}");
+        }
+        for sheet in [LAST_SHEET + 1, 1 << 23, (1 << 31) + three[0], u32::MAX] {
+            assert_eq!(division().sheet_to_local(&three, sheet), refuse(3), "{sheet}");
+        }
+        for far in [5, 6, 256, 257, 65_537, (1 << 31) + 1, u32::MAX - 1, u32::MAX] {
+            for [n, a, b] in [[far, 0, 0], [far, 1, 1], [1, far, 0], [1, far, 1], [1, 1, far], [1, 0, far], [far, far, far]] {
+                assert_eq!(division().local_to_sheet(&three, n, a, b), refuse(6), "{n} {a} {b}");
+            }
+        }
+    }
+
+    #[test]
+    fn municipalities_refused() {
+        let [one, two, three] = sheets_of(["2-25-101-1", "2-26-101-1", "2-1-101-2"]);
+        let [below, above, last, none] = [78_173, 453_174, LAST_SHEET, LAST_SHEET + 1];
+        let cases: [(&[u32], u32); 33] = [
+            (&[], 23), (&[none], 3), (&[u32::MAX], 3), (&[below], 23), (&[above], 23), (&[0], 23), (&[last], 23),
+            (&[one, one], 15), (&[two, one], 15), (&[one, none], 3), (&[one, u32::MAX], 3), (&[one, above], 23), (&[one, last], 23),
+            // 23 before 15 at one place.
+            (&[one, 0], 23), (&[one, below], 23), (&[one, two, 0], 23), (&[one, two, below], 23),
+            // The first faulty place, whatever its fault is.
+            (&[above, none], 23), (&[above, one], 23), (&[below, none], 23), (&[none, above], 3), (&[none, none], 3), (&[none, one], 3),
+            (&[one, one, none], 15), (&[one, one, above], 15), (&[two, one, below], 15), (&[one, above, none], 23),
+            (&[one, above, two], 23), (&[one, none, above], 3), (&[one, none, two], 3), (&[one, two, two], 15), (&[one, three, two], 15),
+            (&[one, two, none], 3),
+        ];
+        // Before all that may be wrong with what is asked.
+        let hold = |municipality: &[u32], number: u32| {
+            for sheet in [one, two + 1, 0, below, above, last, none, u32::MAX] {
+                assert_eq!(division().sheet_to_local(municipality, sheet), refuse(number), "{municipality:?}");
+            }
+            for [n, a, b] in [[1, 0, 0], [1, 1, 1], [0, 0, 0], [9, 0, 0], [1, 5, 0], [1, 0, 1], [u32::MAX; 3]] {
+                assert_eq!(division().local_to_sheet(municipality, n, a, b), refuse(number), "{municipality:?}");
+            }
+        };
+        for (municipality, number) in cases {
+            hold(municipality, number);
+        }
+        // "1 to 400 sheet numbers": a longer list is not looked at.
+        for count in [401, 402, 4_096, 65_936] {
+            hold(&(one..one + count).collect::<Vec<_>>(), 23);
+            hold(&vec![none; count as usize], 23);
+            hold(&vec![one; count as usize], 23);
+        }
+        // At each place of one that may be, with 15 at the last.
+        for place in [0, 1, 200, 398, 399] {
+            for (number, refusal) in [(none, 3), (below, 23), (above, 23), (one - 1, 15)] {
+                let mut municipality: Vec<u32> = (one..one + 400).collect();
+                municipality[399] = one;
+                municipality[place] = number;
+                hold(&municipality, refusal);
             }
         }
     }

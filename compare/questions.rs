@@ -2,8 +2,10 @@
 
 use crate::ask::{Asker, Question};
 use crate::paper::{
-    self, Division, Frame, Made, Refusal, AREA_EAST, AREA_NORTH, AREA_SOUTH, AREA_WEST, JOINED, LAST_SHEET, MOST, OFFICIAL, SCALES,
+    self, Division, Frame, Made, Refusal, Scale, AREA_EAST, AREA_NORTH, AREA_SOUTH, AREA_WEST, JOINED, LAST_SHEET, MOST,
+    MOST_OF_MUNICIPALITY, OFFICIAL, SCALES,
 };
+use std::collections::BTreeSet;
 
 /// Numbers by chance, the same for the same seed.
 struct Chance(u64);
@@ -196,6 +198,24 @@ const FEW_BYTES: &[u8] = b"\0 c\xCC\x8C";
 /// The sheets of scale 1.
 const OF_SCALE_1: std::ops::Range<u32> = 0..SCALES[0].sheets;
 
+/// The row of 1:2 000 in the table, and into how many rows of as many sheets a 1:50 000 sheet is cut there.
+const OF_SCALE_7: &Scale = &SCALES[6];
+const SIDE_OF_SCALE_7: u64 = 25;
+
+/// What short municipalities are made of: the first and the last 1:2 000 sheet, two that follow one another by number, and one of the next
+/// 1:50 000 sheet that lies between these by rows; sheets of other scales, the next ones to 1:2 000 and those furthest off; and numbers
+/// that are no sheet.
+const OF_MUNICIPALITIES: [u32; 11] = [78_174, 78_198, 78_199, 78_799, 453_173, 0, 78_173, 453_174, LAST_SHEET, LAST_SHEET + 1, u32::MAX];
+
+/// What is asked of each sheet of a municipality: the sheet and all its parts at scales 8 and 9, the sheet and a part at each scale, or one
+/// of these three.
+#[derive(Clone, Copy)]
+enum Parts {
+    All,
+    OneOfEach,
+    One,
+}
+
 /// All texts over some letters, of no letter up to so many.
 fn texts(letters: &[u8], most: u32) -> impl Iterator<Item = Vec<u8>> + '_ {
     let text = move |length: u32, choice: usize| (0..length).map(|k| letters[choice / letters.len().pow(k) % letters.len()]).collect();
@@ -311,10 +331,14 @@ pub fn ask_all(division: &Division, asker: &mut Asker, seed: u64, long: bool) {
     asking.official_names(long);
     asking.nearly_vis(if long { 7 } else { 4 });
     asking.official_lines();
+    asking.short_municipalities(if long { 5 } else { 4 });
+    asking.each_shape(long);
+    asking.long_municipalities();
     asking.short_lists();
     asking.long_sets();
     if long {
         asking.each_sheet();
+        asking.each_local_number();
     }
     for _ in 0..times {
         // In turns, so that a fault of any kind is soon seen.
@@ -347,6 +371,9 @@ pub fn ask_all(division: &Division, asker: &mut Asker, seed: u64, long: bool) {
                 asking.about_official_names();
                 asking.about_a_set();
                 asking.about_a_list();
+            }
+            for _ in 0..20 {
+                asking.about_a_municipality();
             }
         }
     }
@@ -1477,6 +1504,278 @@ impl Asking<'_, '_> {
         self.ask(Question::OfficialSheet { name });
     }
 
+    // ---- Local numbers ----
+
+    fn ask_to_sheet(&mut self, municipality: &[u32], n: u32, a: u32, b: u32) {
+        self.ask(Question::LocalToSheet { municipality: municipality.to_vec(), n, a, b });
+    }
+
+    fn ask_to_local(&mut self, municipality: &[u32], sheet: u32) {
+        self.ask(Question::SheetToLocal { municipality: municipality.to_vec(), sheet });
+    }
+
+    /// The part of a 1:2 000 sheet with these numbers at scales 8 and 9, absent ones 0; none where it has none, or is no such sheet.
+    fn part(&self, sheet: u32, a: u32, b: u32) -> Option<u32> {
+        self.division.local_to_sheet(&[sheet], 1, a, b).ok()
+    }
+
+    /// No part, one at scale 8 and one at scale 9.
+    fn any_parts(&mut self) -> [(u32, u32); 3] {
+        let [a, b, c] = [(); 3].map(|()| 1 + self.chance.below(4) as u32);
+        [(0, 0), (a, 0), (b, c)]
+    }
+
+    /// The 1:2 000 sheets of so many rows and columns of the whole grid, from a row and a column on, as far as it goes.
+    fn block(&self, row: u64, column: u64, rows: u64, columns: u64) -> Vec<u32> {
+        let places = (row..row + rows).flat_map(|row| (column..column + columns).map(move |column| (row, column)));
+        let sheet = |(row, column): (u64, u64)| self.division.sheet_on(7, row as i128, column as i128).ok();
+        places.filter_map(sheet).collect::<BTreeSet<u32>>().into_iter().collect()
+    }
+
+    /// A municipality of so many sheets, close together or with holes, in one row or column, in two rows, or all over the grid; often at
+    /// the grid's border or across that of a 1:50 000 sheet.
+    fn municipality(&mut self, count: usize) -> Vec<u32> {
+        let all = self.division.grid_size(7);
+        let chance = &mut self.chance;
+        let many = count as u64;
+        let side = 1 + (many as f64).sqrt() as u64;
+        let mut sides = match chance.below(8) {
+            0 => (1, many),
+            1 => (many, 1),
+            2 => (2, many),
+            3 => all,
+            4 => (side, side),
+            _ => (side + chance.below(side as usize) as u64, side + chance.below(side as usize) as u64),
+        };
+        if sides.0 > all.0 || sides.1 > all.1 {
+            sides = all;
+        }
+        let mut from = |side: u64, all: u64| {
+            let last = all - side;
+            match chance.below(6) {
+                0 => 0,
+                1 => last,
+                2..=3 => {
+                    let border = SIDE_OF_SCALE_7 * (1 + chance.below((all / SIDE_OF_SCALE_7) as usize - 1) as u64);
+                    border.saturating_sub(1 + chance.below(side as usize) as u64).min(last)
+                }
+                _ => chance.below(last as usize + 1) as u64,
+            }
+        };
+        let (row, column) = (from(sides.0, all.0), from(sides.1, all.1));
+        let mut sheets = BTreeSet::new();
+        while sheets.len() < count {
+            let down = self.chance.below(sides.0 as usize) as u64;
+            let right = self.chance.below(sides.1 as usize) as u64;
+            sheets.extend(self.division.sheet_on(7, (row + down) as i128, (column + right) as i128));
+        }
+        sheets.into_iter().collect()
+    }
+
+    /// Every sheet of a municipality in both directions, by itself or by parts.
+    fn ask_each_local(&mut self, municipality: &[u32], parts: Parts) {
+        for (n, &sheet) in (1..).zip(municipality) {
+            let numbers = match parts {
+                Parts::All => (0..25).map(|k| (k / 5, k % 5)).collect(),
+                Parts::OneOfEach => self.any_parts().to_vec(),
+                Parts::One => vec![self.any_parts()[self.chance.below(3)]],
+            };
+            for (a, b) in numbers {
+                self.ask_to_sheet(municipality, n, a, b);
+                if let Some(part) = self.part(sheet, a, b) {
+                    self.ask_to_local(municipality, part);
+                }
+            }
+        }
+    }
+
+    /// What lies about a sheet of a municipality, and mostly outside: its neighbours and parts of these; the sheets of scales 1 to 6 at its
+    /// corner; those of each scale that have its place in the scale's own order; and numbers that are the sheet when they lose their
+    /// upper bits.
+    fn ask_about_local(&mut self, municipality: &[u32], sheet: u32) {
+        for near in self.division.neighbours(sheet).concat().into_iter().flatten() {
+            for (a, b) in self.any_parts() {
+                let part = self.part(near, a, b).expect("a part");
+                self.ask_to_local(municipality, part);
+            }
+        }
+        let corner = self.division.frame(sheet).expect("a sheet");
+        for scale in 1..=6 {
+            let whole = self.division.sheet_of_point(scale, corner.west, corner.north).expect("a sheet");
+            self.ask_to_local(municipality, whole);
+        }
+        for facts in &SCALES {
+            self.ask_to_local(municipality, facts.first + (sheet - OF_SCALE_7.first) % facts.sheets);
+        }
+        for bit in 19..32 {
+            self.ask_to_local(municipality, sheet | 1 << bit);
+        }
+    }
+
+    /// Local numbers beside good ones: each of the three at its borders, far out, and so that it is a good one when it loses its upper
+    /// bits.
+    fn ask_beside_local(&mut self, municipality: &[u32]) {
+        let count = municipality.len() as u32;
+        let far = |good: usize| EXTREME_U32.into_iter().chain((3..32).map(move |bit| good as u32 | 1 << bit));
+        let good = 1 + self.chance.below(municipality.len());
+        for n in [0, 1, count - 1, count, count + 1, count + 2, 399, 400, 401].into_iter().chain(far(good)) {
+            for (a, b) in [(0, 0), (4, 0), (1, 4), (0, 1), (5, 0)] {
+                self.ask_to_sheet(municipality, n, a, b);
+            }
+        }
+        for part in (0..=6).chain(far(1 + self.chance.below(4))) {
+            for other in [0, 1, 4, 5] {
+                self.ask_to_sheet(municipality, good as u32, part, other);
+                self.ask_to_sheet(municipality, good as u32, other, part);
+            }
+        }
+    }
+
+    /// All lists of up to so many numbers over a few, so that every kind of fault stands at every place, alone, beside others and before
+    /// others, with what is asked good or not.
+    fn short_municipalities(&mut self, most: u32) {
+        let places: Vec<u8> = (0..OF_MUNICIPALITIES.len() as u8).collect();
+        for list in texts(&places, most) {
+            let municipality: Vec<u32> = list.iter().map(|&place| OF_MUNICIPALITIES[place as usize]).collect();
+            self.ask_to_sheet(&municipality, 1, 0, 0);
+            let [n, a, b] = [list.len() + 2, 6, 6].map(|end| self.chance.below(end) as u32);
+            self.ask_to_sheet(&municipality, n, a, b);
+            for (a, b) in [(0, 0), self.any_parts()[self.chance.below(3)]] {
+                let sheet = self.chance.of(&OF_MUNICIPALITIES);
+                self.ask_to_local(&municipality, self.part(sheet, a, b).unwrap_or(sheet));
+            }
+        }
+    }
+
+    /// Municipalities of all shapes. Of small ones every sheet and all its parts, with all that is asked beside; of large ones every sheet,
+    /// in the long form with its parts.
+    fn each_shape(&mut self, long: bool) {
+        let (rows, columns) = self.division.grid_size(7);
+        let (first, last) = (OF_SCALE_7.first, OF_SCALE_7.first + OF_SCALE_7.sheets - 1);
+        let shapes = [
+            // The corners of the grid; the first and the last sheet of the scale are there.
+            (0, 0, 1, 1),
+            (0, columns - 3, 2, 3),
+            (rows - 2, 0, 2, 3),
+            (rows - 1, columns - 1, 1, 1),
+            // Within a 1:50 000 sheet, across two from west to east and from north to south, and where four of them meet.
+            (5, 5, 3, 4),
+            (30, 24, 1, 2),
+            (30, 23, 4, 3),
+            (24, 30, 2, 1),
+            (23, 30, 3, 4),
+            (24, 24, 2, 2),
+            (373, 248, 4, 4),
+        ];
+        let mut small: Vec<Vec<u32>> = shapes.iter().map(|&(row, column, rows, columns)| self.block(row, column, rows, columns)).collect();
+        small.extend([1, 2, 2, 3, 5, 8, 15, 16, 17].map(|count| self.municipality(count)));
+        small.push(vec![first, last]);
+        for municipality in small {
+            self.ask_each_local(&municipality, Parts::All);
+            self.ask_beside_local(&municipality);
+            for &sheet in &municipality {
+                self.ask_about_local(&municipality, sheet);
+            }
+        }
+        let mut large = vec![
+            self.block(90, 90, 20, 20),
+            self.block(rows - 400, columns - 1, 400, 1),
+            self.block(20, 60, 1, 399),
+            (first..first + 400).collect(),
+            (last - 398..=last).collect(),
+            (first..=last).step_by(937).take(400).collect(),
+        ];
+        for _ in 0..if long { 20 } else { 2 } {
+            let count = 399 + self.chance.below(2);
+            large.push(self.municipality(count));
+        }
+        for municipality in large {
+            self.ask_each_local(&municipality, if long { Parts::All } else { Parts::One });
+            self.ask_beside_local(&municipality);
+            for _ in 0..if long { 40 } else { 4 } {
+                let sheet = self.chance.of(&municipality);
+                self.ask_about_local(&municipality, sheet);
+            }
+        }
+    }
+
+    /// Municipalities of about the most sheets and of far too many, good and with each kind of fault at either end and in the middle,
+    /// alone and with another one behind it.
+    fn long_municipalities(&mut self) {
+        for count in [398, 399, 400, 401, 402, 513, 4_096] {
+            let good = self.municipality(count);
+            for place in [0, 1, 2, count / 2, count - 2, count - 1] {
+                let before = if place > 0 { good[place - 1] } else { good[1] };
+                let behind = if place + 1 < count { good[place + 1] } else { good[0] };
+                for number in [good[place], before, before - 1, behind].into_iter().chain(OF_MUNICIPALITIES) {
+                    let mut municipality = good.clone();
+                    municipality[place] = number;
+                    if self.chance.one_in(2) {
+                        let later = place + self.chance.below(count - place);
+                        municipality[later] = self.chance.of(&OF_MUNICIPALITIES);
+                    }
+                    let n = self.chance.of(&[0, 1, count as u32, count as u32 + 1, u32::MAX]);
+                    self.ask_to_sheet(&municipality, n, 0, 0);
+                    self.ask_to_local(&municipality, good[place]);
+                    let sheet = self.sheet();
+                    self.ask_to_local(&municipality, sheet);
+                }
+            }
+        }
+    }
+
+    /// Every 1:2 000 sheet there is, with a part of it at each scale, in municipalities of seven rows and six columns side by side.
+    fn each_local_number(&mut self) {
+        let (rows, columns) = self.division.grid_size(7);
+        for row in (0..rows).step_by(7) {
+            for column in (0..columns).step_by(6) {
+                let municipality = self.block(row, column, 7, 6);
+                self.ask_each_local(&municipality, Parts::OneOfEach);
+            }
+        }
+    }
+
+    fn about_a_municipality(&mut self) {
+        let count = match self.chance.below(60) {
+            0 => MOST_OF_MUNICIPALITY - 3 + self.chance.below(6),
+            1 => self.chance.below(MOST_OF_MUNICIPALITY),
+            2 => 0,
+            3..=8 => 17 + self.chance.below(80),
+            _ => 1 + self.chance.below(16),
+        };
+        let mut municipality = self.municipality(count);
+        if count > 0 && self.chance.one_in(4) {
+            self.put_faults(&mut municipality);
+        }
+        for _ in 0..3 {
+            let n = match self.chance.below(12) {
+                0 => 0,
+                1 => count as u32 + 1,
+                2 => self.chance.of(&EXTREME_U32),
+                3 => self.chance.any_u32(),
+                _ => 1 + self.chance.below(count.max(1)) as u32,
+            };
+            let [a, b] = [(); 2].map(|()| match self.chance.below(10) {
+                0 => 5,
+                1 => self.chance.of(&EXTREME_U32),
+                2 => self.chance.any_u32(),
+                3..=4 => 0,
+                _ => 1 + self.chance.below(4) as u32,
+            });
+            self.ask_to_sheet(&municipality, n, a, b);
+            let sheet = match self.chance.below(12) {
+                _ if municipality.is_empty() => self.sheet(),
+                0 => self.sheet(),
+                1 => self.sheet_of(7),
+                2 => self.chance.of(&municipality).wrapping_add(1),
+                3 => self.chance.of(&municipality).wrapping_sub(1),
+                _ => self.chance.of(&municipality),
+            };
+            let (a, b) = self.any_parts()[self.chance.below(3)];
+            self.ask_to_local(&municipality, self.part(sheet, a, b).unwrap_or(sheet));
+        }
+    }
+
     // ---- Shelf lists ----
 
     /// A rising set of about so many sheets, by gaps; the gaps are of each length in bytes.
@@ -1519,23 +1818,28 @@ impl Asking<'_, '_> {
             _ => 1 + self.chance.below(12),
         };
         let mut sheets = self.rising(count);
-        // One fault or two, of a kind each.
         if !sheets.is_empty() && self.chance.one_in(3) {
-            for _ in 0..1 + self.chance.below(2) {
-                let place = self.chance.below(sheets.len());
-                match self.chance.below(8) {
-                    0 => sheets[place] = LAST_SHEET + 1,
-                    1 => sheets[place] = self.chance.of(&EXTREME_U32),
-                    2 => sheets[place] = self.chance.any_u32(),
-                    3 if place > 0 => sheets[place] = sheets[place - 1],
-                    4 if place > 0 => sheets.swap(place, place - 1),
-                    5 if place > 0 => sheets[place] = sheets[place - 1].wrapping_sub(1),
-                    6 => sheets[place] = sheets[place].wrapping_add(1),
-                    _ => sheets.push(self.chance.of(&[LAST_SHEET, LAST_SHEET + 1, u32::MAX, 0])),
-                }
-            }
+            self.put_faults(&mut sheets);
         }
         sheets
+    }
+
+    /// One fault or two, of a kind each.
+    fn put_faults(&mut self, sheets: &mut Vec<u32>) {
+        for _ in 0..1 + self.chance.below(2) {
+            let place = self.chance.below(sheets.len());
+            match self.chance.below(9) {
+                0 => sheets[place] = LAST_SHEET + 1,
+                1 => sheets[place] = self.chance.of(&EXTREME_U32),
+                2 => sheets[place] = self.chance.any_u32(),
+                3 if place > 0 => sheets[place] = sheets[place - 1],
+                4 if place > 0 => sheets.swap(place, place - 1),
+                5 if place > 0 => sheets[place] = sheets[place - 1].wrapping_sub(1),
+                6 => sheets[place] = sheets[place].wrapping_add(1),
+                7 => sheets[place] = self.good_sheet(),
+                _ => sheets.push(self.chance.of(&[LAST_SHEET, LAST_SHEET + 1, u32::MAX, 0])),
+            }
+        }
     }
 
     fn about_a_set(&mut self) {

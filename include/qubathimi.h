@@ -1,5 +1,5 @@
-/* Qubathimi for C and for any language that calls C: map sheets of nine scales, their frames, labels, catalogue lines, official names
- * and shelf lists.
+/* Qubathimi for C and for any language that calls C: map sheets of nine scales, their frames, labels, catalogue lines, official names,
+ * local numbers and shelf lists.
  *
  * `rt staticlib qubathimi_c` proves the functions and writes target/staticlib/libqubathimi_c.a, for x86-64 Linux; link it with a program
  * that includes this header. Of the C library it calls memcpy and nothing else. It allocates nothing, needs no setting up and keeps
@@ -8,7 +8,7 @@
  *
  * The convention. Seven functions cannot refuse and have their answer as the result: qubathimi_width, _height, _rows, _columns, _first,
  * _last and _scale_of; and so has qubathimi_same_name, which is true or false. For all others:
- *  - The result is 0 where the function answers, and otherwise the number of the refusal, 1 to 22 (enum qubathimi_refusal). Where several
+ *  - The result is 0 where the function answers, and otherwise the number of the refusal, 1 to 23 (enum qubathimi_refusal). Where several
  *    are due, the first in the order given at the function is the one.
  *  - An answer that is one number goes to *value, and so does the count of what is laid into lent room. *value is written in every
  *    case: of a refusal it is what the refusal carries, the room needed with 10, a place in the label with 4, 5, 19, 20 and 21, and
@@ -41,6 +41,8 @@ extern "C" {
 #define QUBATHIMI_LONGEST_LABEL 16
 /* the most sheets that a cover or a list has */
 #define QUBATHIMI_MOST_SHEETS 4096
+/* the most sheets that a municipality has */
+#define QUBATHIMI_MOST_IN_MUNICIPALITY 400
 /* the places of a block of neighbours, and the mark of no sheet: at a place off the grid, and for a name that no sheet has */
 #define QUBATHIMI_NEIGHBOURS 9
 #define QUBATHIMI_NONE UINT32_C(4294967295)
@@ -60,7 +62,8 @@ enum qubathimi_refusal {
     QUBATHIMI_NO_SHEET = 3,        /* sheet number above 7 953 173 */
     QUBATHIMI_LABEL_LENGTH = 4,    /* label empty, at 0, or over 16 bytes, at 16; carries that place */
     QUBATHIMI_FIELD_RANGE = 5,     /* a label field out of range; carries where the first such field begins */
-    QUBATHIMI_NO_SUCH = 6,         /* no such parent or child, step or place off the grid, offset across scales */
+    QUBATHIMI_NO_SUCH = 6,         /* no such parent or child, step or place off the grid, offset across scales, sheet or local numbers that
+                                      a municipality does not have */
     QUBATHIMI_WINDOW_ORDER = 7,    /* window with east not above west or north not above south */
     QUBATHIMI_WINDOW_OUTSIDE = 8,  /* window reaching outside the area */
     QUBATHIMI_TOO_MANY = 9,        /* more than 4 096 sheets */
@@ -69,14 +72,15 @@ enum qubathimi_refusal {
     QUBATHIMI_BAD_NUMBER = 12,     /* list number badly written, or count over 4 096 */
     QUBATHIMI_PAST_LAST = 13,      /* list runs past the last sheet */
     QUBATHIMI_MORE_BYTES = 14,     /* bytes after the list's end */
-    QUBATHIMI_NOT_RISING = 15,     /* sheets to be written not strictly rising */
+    QUBATHIMI_NOT_RISING = 15,     /* sheets to be written, or of a municipality, not strictly rising */
     QUBATHIMI_NAME_FORM = 16,      /* name badly formed */
     QUBATHIMI_NAME_SCALE = 17,     /* name at scale 7, 8 or 9 */
     QUBATHIMI_NO_NUMBER = 18,      /* a value in metres that is infinite or no number */
     QUBATHIMI_STRANGE_BYTE = 19,   /* a byte of a label that is neither digit nor hyphen; carries the place of the first */
     QUBATHIMI_FIELD_FORM = 20,     /* an empty label field, or one with a leading zero; carries where the first such field begins */
     QUBATHIMI_NAMES_NO_SCALE = 21, /* a label's first number or its count of fields unknown; carries 0 */
-    QUBATHIMI_NOT_250_000 = 22     /* not a 1:250 000 sheet */
+    QUBATHIMI_NOT_250_000 = 22,    /* not a 1:250 000 sheet */
+    QUBATHIMI_NO_MUNICIPALITY = 23 /* list of a municipality empty or above 400 sheets, or with a sheet that is not 1:2 000 */
 };
 
 /* ---- Scales. Of a number that is no scale, not 1 to 9, each of these is 0. ---- */
@@ -207,6 +211,24 @@ uint32_t qubathimi_official_sheet(const uint8_t *name, size_t length, uint64_t *
  * no official name, whatever the line has. Refusals: those of qubathimi_read_line, with their places; then 22 for a sheet of another scale.
  * examples/official.c checks a catalogue by it. */
 uint32_t qubathimi_official_check(const uint8_t *line, size_t length, uint64_t *value);
+
+/* ---- Local numbers: those of a cadastral municipality's sheets, beside their labels ----
+ *
+ * A municipality is lent as the numbers of its 1:2 000 sheets (scale 7), 1 to 400 of them, strictly rising. These sheets have the numbers 1
+ * to `count`, by rows of the whole grid from the north, each row from the west: not in the order of the list where the municipality lies in
+ * several 1:50 000 sheets. A 1:1 000 sheet has the number n of the 1:2 000 sheet that it is a part of, and its own number there, a, 1 to 4; a
+ * 1:500 sheet has the two of the 1:1 000 sheet that it is a part of, and its own number there, b, 1 to 4. Numbers that are absent are 0. Each of
+ * the two functions leads back to what the other was asked. The list is looked at first: 23 where it is empty or above 400; then its first
+ * faulty place, 3 for no sheet, 23 for a sheet of another scale, 15 for one that does not rise. */
+
+/* The sheet that has the local numbers n, a and b: a 1:2 000 sheet where a and b are 0, a 1:1 000 sheet where b is 0, and otherwise a 1:500
+ * sheet. Refusals: 23, 3 and 15 of the list; 6 where no sheet of the municipality has them, so for n 0 or above `count`, for a or b above
+ * 4, and for b without a. */
+uint32_t qubathimi_local_to_sheet(const uint32_t *municipality, size_t count, uint32_t n, uint32_t a, uint32_t b, uint64_t *value);
+
+/* The local numbers of a sheet. Refusals: 23, 3 and 15 of the list; 3; 6 for a sheet that is not of the municipality, and for every sheet
+ * of the scales 1 to 6. */
+uint32_t qubathimi_sheet_to_local(const uint32_t *municipality, size_t count, uint32_t sheet, uint32_t *n, uint32_t *a, uint32_t *b);
 
 /* ---- Shelf lists ---- */
 

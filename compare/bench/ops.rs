@@ -11,7 +11,7 @@ use std::time::Instant;
 mod numbers;
 mod sheets;
 use numbers::Numbers;
-use sheets::{LAST_SHEET, LONGEST_LABEL, MOST_SHEETS, SCALES};
+use sheets::{LAST_SHEET, LONGEST_LABEL, MOST_OF_MUNICIPALITY, MOST_SHEETS, SCALES};
 
 const SEED: u64 = 1;
 const LABELS: usize = 65_536;
@@ -19,6 +19,9 @@ const POINTS: usize = 65_536;
 const NAMES: usize = 65_536;
 const LARGE_SETS: usize = 16;
 const SMALL_SETS: usize = 4_096;
+const LARGE_MUNICIPALITIES: usize = 16;
+const SMALL_MUNICIPALITIES: usize = 1_024;
+const LOCAL: usize = 2_048;
 /// The bytes of the longest list: two for its count, and four for each sheet.
 const LONGEST_LIST: usize = 2 + 4 * MOST_SHEETS;
 
@@ -30,6 +33,8 @@ extern "C" {
     fn qubathimi_same_name(a: *const u8, a_length: usize, b: *const u8, b_length: usize) -> bool;
     fn qubathimi_write_list(sheets: *const u32, count: usize, room: *mut u8, length: usize, value: &mut u64) -> u32;
     fn qubathimi_read_list(list: *const u8, length: usize, room: *mut u32, room_length: usize, placed: &mut u64, value: &mut u64) -> u32;
+    fn qubathimi_local_to_sheet(municipality: *const u32, count: usize, n: u32, a: u32, b: u32, value: &mut u64) -> u32;
+    fn qubathimi_sheet_to_local(municipality: *const u32, count: usize, sheet: u32, n: &mut u32, a: &mut u32, b: &mut u32) -> u32;
 }
 
 // ---- the questions
@@ -149,6 +154,72 @@ fn small_set(numbers: &mut Numbers) -> Vec<u32> {
     set
 }
 
+/// The 1:2 000 sheet in a row and a column of the whole grid.
+fn sheet_on(row: u64, column: u64) -> u32 {
+    sheets::sheet_at(7, 200_000_000 + 1_200_000 * column as i64, 5_170_000_000 - 800_000 * row as i64).unwrap()
+}
+
+/// A municipality of so many sheets: a rectangle across 1:50 000 sheets, of which a fifth or a little more is missing.
+fn municipality(count: usize, numbers: &mut Numbers) -> Vec<u32> {
+    let places = count as u64 * 5 / 4 + 1;
+    let side = (places as f64).sqrt() as u64;
+    let columns = numbers.draw(side.div_ceil(2), side + side / 2);
+    let rows = places.div_ceil(columns);
+    let north = 25 * numbers.draw(2, 28) - numbers.draw(1, rows.max(2) - 1);
+    let west = 25 * numbers.draw(2, 18) - numbers.draw(1, columns.max(2) - 1);
+    let all = (north..north + rows).flat_map(|row| (west..west + columns).map(move |column| sheet_on(row, column)));
+    let mut sheets: Vec<u32> = all.collect();
+    while sheets.len() > count {
+        sheets.swap_remove(numbers.draw(0, sheets.len() as u64 - 1) as usize);
+    }
+    sheets.sort_unstable();
+    sheets
+}
+
+/// Two numbers of parts, at each of the three scales as often: absent ones are 0.
+fn any_parts(numbers: &mut Numbers) -> (u32, u32) {
+    let (a, b) = (numbers.draw(1, 4) as u32, numbers.draw(1, 4) as u32);
+    match numbers.draw(0, 2) {
+        0 => (0, 0),
+        1 => (a, 0),
+        _ => (a, b),
+    }
+}
+
+/// Local numbers in any of some municipalities; one in ten has no sheet.
+fn local_numbers<'a>(municipalities: &'a [Vec<u32>], numbers: &mut Numbers) -> Vec<(&'a [u32], [u32; 3])> {
+    let mut any_numbers = || {
+        let municipality = &municipalities[numbers.draw(0, municipalities.len() as u64 - 1) as usize][..];
+        let count = municipality.len() as u64;
+        let (n, (a, b)) = (numbers.draw(1, count) as u32, any_parts(numbers));
+        let asked = match numbers.draw(0, 39) {
+            0 => [0, a, b],
+            1 => [n + count as u32, a, b],
+            2 => [n, 0, 1],
+            3 => [n, 5, b],
+            _ => [n, a, b],
+        };
+        (municipality, asked)
+    };
+    (0..LOCAL).map(|_| any_numbers()).collect()
+}
+
+/// Sheets of any of some municipalities; one in ten is outside, beside a sheet of it.
+fn local_sheets<'a>(municipalities: &'a [Vec<u32>], numbers: &mut Numbers) -> Vec<(&'a [u32], u32)> {
+    let mut any_local = || {
+        let municipality = &municipalities[numbers.draw(0, municipalities.len() as u64 - 1) as usize][..];
+        let mut whole = municipality[numbers.draw(0, municipality.len() as u64 - 1) as usize];
+        if numbers.draw(0, 9) == 0 {
+            while municipality.contains(&whole) {
+                whole += 1;
+            }
+        }
+        let (a, b) = any_parts(numbers);
+        (municipality, sheets::local_to_sheet(&[whole], 1, a, b).unwrap())
+    };
+    (0..LOCAL).map(|_| any_local()).collect()
+}
+
 // ---- the same call of both: a status, and the value with it
 
 #[inline(never)]
@@ -243,6 +314,39 @@ fn our_read_list(list: &[u8], room: &mut [u32]) -> (u32, u64) {
     let (mut placed, mut value) = (0, 0);
     let status = unsafe { qubathimi_read_list(list.as_ptr(), list.len(), room.as_mut_ptr(), room.len(), &mut placed, &mut value) };
     (status, placed)
+}
+
+#[inline(never)]
+fn rust_local_to_sheet(&(municipality, [n, a, b]): &(&[u32], [u32; 3])) -> (u32, u64) {
+    match sheets::local_to_sheet(municipality, n, a, b) {
+        Ok(sheet) => (0, sheet as u64),
+        Err(why) => (why, 0),
+    }
+}
+
+fn our_local_to_sheet(&(municipality, [n, a, b]): &(&[u32], [u32; 3])) -> (u32, u64) {
+    let mut value = 0;
+    let status = unsafe { qubathimi_local_to_sheet(municipality.as_ptr(), municipality.len(), n, a, b, &mut value) };
+    (status, value)
+}
+
+/// Local numbers as one value.
+fn one_value([n, a, b]: [u32; 3]) -> u64 {
+    n as u64 | (a as u64) << 32 | (b as u64) << 40
+}
+
+#[inline(never)]
+fn rust_sheet_to_local(&(municipality, sheet): &(&[u32], u32)) -> (u32, u64) {
+    match sheets::sheet_to_local(municipality, sheet) {
+        Ok(numbers) => (0, one_value(numbers)),
+        Err(why) => (why, 0),
+    }
+}
+
+fn our_sheet_to_local(&(municipality, sheet): &(&[u32], u32)) -> (u32, u64) {
+    let [mut n, mut a, mut b] = [0; 3];
+    let status = unsafe { qubathimi_sheet_to_local(municipality.as_ptr(), municipality.len(), sheet, &mut n, &mut a, &mut b) };
+    (status, one_value([n, a, b]))
 }
 
 // ---- the race
@@ -355,5 +459,22 @@ fn main() {
         let lists = lists(sets, numbers);
         both.race(&format!("list reading, {size}"), &lists, times, MOST_SHEETS, |q, r| our_read_list(q, r), |q, r| rust_read_list(q, r));
         both.race(&format!("list writing, {size}"), sets, times, LONGEST_LIST, |q, r| our_write_list(q, r), |q, r| rust_write_list(q, r));
+    }
+
+    // Numbers of their own, as for points in metres.
+    let numbers = &mut Numbers(SEED);
+    let large: Vec<Vec<u32>> = (0..LARGE_MUNICIPALITIES).map(|_| municipality(MOST_OF_MUNICIPALITY, numbers)).collect();
+    let mut any_small = || {
+        let count = numbers.draw(1, 16) as usize;
+        municipality(count, numbers)
+    };
+    let small: Vec<Vec<u32>> = (0..SMALL_MUNICIPALITIES).map(|_| any_small()).collect();
+    for (size, municipalities, times) in [("400 sheets", &large, 1), ("1 to 16 sheets", &small, 16)] {
+        let questions = local_numbers(municipalities, numbers);
+        let (ours, rust) = (our_local_to_sheet, rust_local_to_sheet);
+        both.race(&format!("local numbers to sheet, {size}"), &questions, times, 0, |q, _: &mut [u8]| ours(q), |q, _| rust(q));
+        let questions = local_sheets(municipalities, numbers);
+        let (ours, rust) = (our_sheet_to_local, rust_sheet_to_local);
+        both.race(&format!("sheet to local numbers, {size}"), &questions, times, 0, |q, _: &mut [u8]| ours(q), |q, _| rust(q));
     }
 }

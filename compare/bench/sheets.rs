@@ -1,12 +1,16 @@
-//! The definition in plain Rust, for its time alone: labels, points, also in metres, names and shelf lists.
+//! The definition in plain Rust, for its time alone: labels, points, also in metres, names, local numbers and shelf lists.
 //!
 //! Written as a careful Rust programmer would write it: one table, one pass over the bytes, no allocation, and a second pass only for the
-//! place at which a label is at fault, and for names of which not all bytes are the same. A refusal is its number, with that place beside
-//! it, or the room needed where lent room can be too short. Each program here uses a part of it.
+//! place at which a label is at fault, and for names of which not all bytes are the same. A municipality is not sorted: what its list's
+//! order tells already is used, and the rest is counted. A refusal is its number, with that place beside it, or the room needed where lent
+//! room can be too short. Each program here uses a part of it.
 #![allow(dead_code)]
+
+use std::ops::Range;
 
 pub const LAST_SHEET: u32 = 7_953_173;
 pub const MOST_SHEETS: usize = 4_096;
+pub const MOST_OF_MUNICIPALITY: usize = 400;
 pub const LONGEST_LABEL: usize = 16;
 const WEST: u32 = 200_000;
 const EAST: u32 = 800_000;
@@ -307,6 +311,116 @@ pub fn same_name(mut a: &[u8], mut b: &[u8]) -> bool {
             _ => return false,
         };
     }
+}
+
+// ---- local numbers
+
+/// The first sheets of 1:2 000, 1:1 000 and 1:500, each scale ending where the next begins.
+const FROM_2_000: u32 = 78_174;
+const FROM_1_000: u32 = 453_174;
+const FROM_500: u32 = 1_953_174;
+/// The 1:2 000 sheets of a 1:50 000 sheet, those of a row in it, its rows, and the sheets of a row of twenty 1:50 000 sheets.
+const OF_50_000: u32 = 625;
+const OF_ROW: u32 = 25;
+const ROWS: usize = 25;
+const OF_BAND: u32 = 20 * OF_50_000;
+
+/// What is wrong with a municipality that has 1 to 400 numbers and is not as it must be.
+#[cold]
+fn fault_of(municipality: &[u32]) -> u32 {
+    let mut least = 0;
+    for &sheet in municipality {
+        if sheet > LAST_SHEET {
+            return 3;
+        }
+        if !(FROM_2_000..FROM_1_000).contains(&sheet) {
+            return 23;
+        }
+        if sheet < least {
+            break;
+        }
+        least = sheet + 1;
+    }
+    15
+}
+
+/// Where the numbers rise, the first and the last tell the scale of all. The comparisons go on to the end, many at a time.
+fn check(municipality: &[u32]) -> Result<(), u32> {
+    if municipality.is_empty() || municipality.len() > MOST_OF_MUNICIPALITY {
+        return Err(23);
+    }
+    let (first, last) = (municipality[0], municipality[municipality.len() - 1]);
+    let rising = municipality.windows(2).fold(true, |rising, two| rising & (two[0] < two[1]));
+    if !rising || first < FROM_2_000 || last >= FROM_1_000 {
+        return Err(fault_of(municipality));
+    }
+    Ok(())
+}
+
+/// The row of a 1:2 000 sheet in its 1:50 000 sheet.
+fn row_of(sheet: u32) -> u32 {
+    (sheet - FROM_2_000) % OF_50_000 / OF_ROW
+}
+
+/// The places of the sheets that lie in the same row of 1:50 000 sheets. By rows, too, just as many come before them, and in each of their
+/// rows the sheets rise.
+fn band_of(municipality: &[u32], sheet: u32) -> Range<usize> {
+    let from = sheet - (sheet - FROM_2_000) % OF_BAND;
+    let start = municipality.partition_point(|&other| other < from);
+    start..start + municipality[start..].partition_point(|&other| other < from + OF_BAND)
+}
+
+pub fn local_to_sheet(municipality: &[u32], n: u32, a: u32, b: u32) -> Result<u32, u32> {
+    check(municipality)?;
+    let place = n.wrapping_sub(1) as usize;
+    if place >= municipality.len() || a > 4 || b > 4 || (a == 0 && b > 0) {
+        return Err(6);
+    }
+    let band = band_of(municipality, municipality[place]);
+    let mut left = place - band.start;
+    let band = &municipality[band];
+    let mut counts = [0; ROWS];
+    for &sheet in band {
+        counts[row_of(sheet) as usize] += 1;
+    }
+    let mut row = 0;
+    while left >= counts[row] {
+        left -= counts[row];
+        row += 1;
+    }
+    let sheet = *band.iter().filter(|&&sheet| row_of(sheet) == row as u32).nth(left).unwrap();
+    let index = sheet - FROM_2_000;
+    Ok(match (a, b) {
+        (0, _) => sheet,
+        (_, 0) => FROM_1_000 + 4 * index + a - 1,
+        _ => FROM_500 + 16 * index + 4 * (a - 1) + b - 1,
+    })
+}
+
+/// The three numbers, absent ones 0.
+pub fn sheet_to_local(municipality: &[u32], sheet: u32) -> Result<[u32; 3], u32> {
+    check(municipality)?;
+    if sheet > LAST_SHEET {
+        return Err(3);
+    }
+    let (whole, a, b) = if sheet >= FROM_500 {
+        let index = sheet - FROM_500;
+        (FROM_2_000 + index / 16, index / 4 % 4 + 1, index % 4 + 1)
+    } else if sheet >= FROM_1_000 {
+        let index = sheet - FROM_1_000;
+        (FROM_2_000 + index / 4, index % 4 + 1, 0)
+    } else {
+        (sheet, 0, 0)
+    };
+    if municipality.binary_search(&whole).is_err() {
+        return Err(6);
+    }
+    let band = band_of(municipality, whole);
+    let row = row_of(whole);
+    let start = band.start as u32;
+    // Those of the rows above, and those of its own row that have a lower number.
+    let before: u32 = municipality[band].iter().map(|&other| (row_of(other) < row + (other < whole) as u32) as u32).sum();
+    Ok([start + before + 1, a, b])
 }
 
 // ---- shelf lists

@@ -2,6 +2,7 @@
 use crate::known;
 use crate::labels;
 use crate::lists;
+use crate::locals;
 use crate::metres;
 use crate::sheets;
 use crate::spelt;
@@ -70,6 +71,8 @@ fn requested(kind: u8, s: &[u8]) {
         b'k' => known::known(s),
         b'i' => known::identify(s),
         b'y' => known::yours(s),
+        b'L' => locals::local(s),
+        b'M' => locals::municipality(s),
         _ => none(),
     }
 }

@@ -15,7 +15,7 @@ use shelf::writing::write_list;
 use std::num::wrapping_add_u32;
 
 // How many sheets a question may have: more than any list has.
-const MOST: usize = 4100;
+pub(crate) const MOST: usize = 4100;
 
 // Room for few sheets, which is marked in less time than room for more than any list has.
 const FEW: usize = 64;
@@ -31,7 +31,7 @@ pub(crate) fn groups(s: &[u8]) {
 pub(crate) fn pack(s: &[u8]) {
     let mut sheets = [0u32; MOST];
     let n = size(s, 2);
-    given(s, n, &mut sheets);
+    given(s, 3, n, &mut sheets);
     writing(OUT, front(n, &sheets), size(s, 1));
 }
 
@@ -43,20 +43,20 @@ pub(crate) fn rule(s: &[u8]) {
     writing(OUT, front(size(s, 4), &sheets), size(s, 1));
 }
 
-// So many sheets of a question.
-fn given(s: &[u8], n: usize, sheets: &mut [u32; MOST]) {
+// So many sheets of a question, behind so many spaces.
+pub(crate) fn given(s: &[u8], spaces: u8, n: usize, sheets: &mut [u32; MOST]) {
     let mut i = 0;
     while i < MOST {
         if i == n {
             return;
         }
-        sheets[i] = small(s, i + 3);
+        sheets[i] = small(s, i + spaces as usize);
         i += 1;
     }
 }
 
 // A first sheet, and each later one so far from the one before; beyond 32 bits it starts again from 0.
-fn ruled(first: u32, step: u32, sheets: &mut [u32; MOST]) {
+pub(crate) fn ruled(first: u32, step: u32, sheets: &mut [u32; MOST]) {
     let mut n = first;
     let mut i = 0;
     while i < MOST {
@@ -67,7 +67,7 @@ fn ruled(first: u32, step: u32, sheets: &mut [u32; MOST]) {
 }
 
 // Puts a number in a place, counted from 1. There is no place 0.
-fn put(place: usize, n: u32, sheets: &mut [u32; MOST]) {
+pub(crate) fn put(place: usize, n: u32, sheets: &mut [u32; MOST]) {
     if place > 0 {
         if place <= MOST {
             sheets[place - 1] = n;
@@ -76,7 +76,7 @@ fn put(place: usize, n: u32, sheets: &mut [u32; MOST]) {
 }
 
 // The first so many.
-fn front(n: usize, sheets: &[u32; MOST]) -> &[u32] {
+pub(crate) fn front(n: usize, sheets: &[u32; MOST]) -> &[u32] {
     sheets_before(sheets, n)
 }
 

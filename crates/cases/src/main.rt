@@ -5,6 +5,7 @@ mod ask;
 mod known;
 mod labels;
 mod lists;
+mod locals;
 mod metres;
 mod part;
 mod read;

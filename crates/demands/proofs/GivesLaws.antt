@@ -110,7 +110,7 @@ module _ {listed : List ℕ} where
   cover-gives h i j k s w =
       line-gives 2 (isScale s) h (line-gives 7 (isWindow w) i (line-gives 8 (within area w) j (test-gives 9 (length (sheetsIn s w) ≤? 4_096) k)))
 
-  rising-gives : (judge : ℕ → Paper Unit) → ((n : ℕ) → Gives listed (judge n)) → isIn listed 15 ≡ true → (least : ℕ) (numbers : List ℕ) → Gives listed (risingFrom judge least numbers)
+  pub rising-gives : (judge : ℕ → Paper Unit) → ((n : ℕ) → Gives listed (judge n)) → isIn listed 15 ≡ true → (least : ℕ) (numbers : List ℕ) → Gives listed (risingFrom judge least numbers)
   unfolding risingFrom
   rising-gives judge g i least [] = answers
   rising-gives judge g i least (x ∷ xs) = then-gives (g x) (line-gives 15 (leb least x) i (rising-gives judge g i (x + 1) xs))

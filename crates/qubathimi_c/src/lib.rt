@@ -7,6 +7,7 @@ pub mod known;
 pub mod labels;
 pub mod lines;
 pub mod lists;
+pub mod locals;
 pub mod metres;
 pub mod scales;
 pub mod sheets;

@@ -8,7 +8,7 @@ use borrow.Author.Tests.{not-true, not-false, le-leb, leb-true}
 use lib.Dec.{leb, eqb}
 use lib.ListN.{length, getD}
 use Rattle.refusal.specs.declared.Refusal.{Refusal}
-use Rattle.refusal.specs.declared.Refusal.the-variants.{PointOutside, NoScale, NoSheet, LabelLength, FieldRange, NoSuch, WindowOrder, WindowOutside, TooMany, Room, EndsEarly, BadNumber, PastLast, MoreBytes, NotRising, NameForm, NameScale, NoNumber, StrangeByte, FieldForm, NamesNoScale, Not250000}
+use Rattle.refusal.specs.declared.Refusal.the-variants.{PointOutside, NoScale, NoSheet, LabelLength, FieldRange, NoSuch, WindowOrder, WindowOutside, TooMany, Room, EndsEarly, BadNumber, PastLast, MoreBytes, NotRising, NameForm, NameScale, NoNumber, StrangeByte, FieldForm, NamesNoScale, Not250000, NoMunicipality}
 use Rattle.refusal.specs.declared.Numbered.{Numbered}
 use Rattle.refusal.specs.declared.Laid.{Laid}
 use Rattle.refusal.specs.declared.Laid.the-variants.{Items, Refused}
@@ -43,7 +43,7 @@ same-answer e = cc
 
 -- the refusal of a number and a value
 abbrev refusalAt : ℕ → ℕ → Refusal
-refusalAt n v = getD (PointOutside ∷ NoScale ∷ NoSheet ∷ LabelLength v ∷ FieldRange v ∷ NoSuch ∷ WindowOrder ∷ WindowOutside ∷ TooMany ∷ Room v ∷ EndsEarly ∷ BadNumber ∷ PastLast ∷ MoreBytes ∷ NotRising ∷ NameForm ∷ NameScale ∷ NoNumber ∷ StrangeByte v ∷ FieldForm v ∷ NamesNoScale ∷ Not250000 ∷ []) (n - 1) NoNumber
+refusalAt n v = getD (PointOutside ∷ NoScale ∷ NoSheet ∷ LabelLength v ∷ FieldRange v ∷ NoSuch ∷ WindowOrder ∷ WindowOutside ∷ TooMany ∷ Room v ∷ EndsEarly ∷ BadNumber ∷ PastLast ∷ MoreBytes ∷ NotRising ∷ NameForm ∷ NameScale ∷ NoNumber ∷ StrangeByte v ∷ FieldForm v ∷ NamesNoScale ∷ Not250000 ∷ NoMunicipality ∷ []) (n - 1) NoNumber
 
 -- from the paper back to an answer of a kind
 abbrev pub read : {A X : Type 0} → (X → A) → (Refusal → A) → Paper X → A
@@ -73,6 +73,7 @@ read-refusal good bad (StrangeByte place) = refl
 read-refusal good bad (FieldForm place) = refl
 read-refusal good bad NamesNoScale = refl
 read-refusal good bad Not250000 = refl
+read-refusal good bad NoMunicipality = refl
 
 -- a refusal is no answer
 pub no-answer : (A : Type 0) (why : Refusal) → isAnswer (onPaper {A = A} why) ≡ false
@@ -121,6 +122,7 @@ on-paper (StrangeByte place) = record { number = 19; some = refl; value = place;
 on-paper (FieldForm place) = record { number = 20; some = refl; value = place; bare = carried 20 place refl; is = λ A. refl }
 on-paper NamesNoScale = record { number = 21; some = refl; value = 0; bare = λ e. refl; is = λ A. refl }
 on-paper Not250000 = record { number = 22; some = refl; value = 0; bare = λ e. refl; is = λ A. refl }
+on-paper NoMunicipality = record { number = 23; some = refl; value = 0; bare = λ e. refl; is = λ A. refl }
 
 -- and there is one telling of it in numbers
 pub one-numbering : {why : Refusal} {a b : Numbered} → IsNumbered why a → IsNumbered why b → a ≡ b

@@ -32,6 +32,7 @@ pub enum Refusal {
     // a label that names no scale is wrong from its first byte on: its place is always 0
     NamesNoScale,
     Not250000,
+    NoMunicipality,
 }
 
 // What was laid into lent room: so many sheets or bytes, from its first place on; or a refusal, and the room is as it was.
@@ -70,6 +71,7 @@ impl Refusal {
             Refusal::FieldForm(place) => Numbered(20, place, true),
             Refusal::NamesNoScale => Numbered(21, 0, true),
             Refusal::Not250000 => Numbered(22, 0, false),
+            Refusal::NoMunicipality => Numbered(23, 0, false),
         }
     }
 }

@@ -1,5 +1,5 @@
 -- Which lists pass and which are refused, and that the members of a rising list determine it: the first of them is the least. Assumes nothing.
-use mathlib.Core.Path.{_≡_, refl, sym, ap₂, _∙_}
+use mathlib.Core.Path.{_≡_, refl, sym, ap, ap₂, _∙_}
 use mathlib.Core.Bool.{Bool, true, false}
 use mathlib.Core.Logic.{⊎-elim, _↔_}
 use mathlib.Core.List.{List, [], _∷_, List·Memᴰ, List·Memᴰ·head, List·Memᴰ·tail, List·Memᴰ·not-nil, List·Memᴰ·cases-cons}
@@ -117,7 +117,14 @@ abbrev Has : List ℕ → List ℕ → Type 0
 Has a b = (x : ℕ) → List·Memᴰ x a → List·Memᴰ x b
 
 module _ (judge : ℕ → Paper Unit) where
-  -- no member is below the least, nor below what begins the list
+  -- each member is fine
+  pub member-fine : (least : ℕ) (xs : List ℕ) → risingFrom judge least xs ≡ answer tt → {x : ℕ} → List·Memᴰ x xs → judge x ≡ answer tt
+  member-fine least [] e m = absurd (List·Memᴰ·not-nil m)
+  member-fine least (y ∷ ys) e m =
+      let f = head judge least y ys e in
+      ⊎-elim (λ same. ap judge same ∙ f .fine) (λ later. member-fine (y + 1) ys (f .later) later) (List·Memᴰ·cases-cons m)
+
+  -- none is below the least, nor below what begins the list
   pub not-below : (least : ℕ) (xs : List ℕ) → risingFrom judge least xs ≡ answer tt → {x : ℕ} → List·Memᴰ x xs → least ≤ x
   not-below least [] e m = absurd (List·Memᴰ·not-nil m)
   not-below least (y ∷ ys) e m =

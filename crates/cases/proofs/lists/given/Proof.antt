@@ -5,10 +5,10 @@ use Rattle.cases.proofs.lists.given.Statement.{statement}
 use Rattle.cases.proofs.lists.given.Tie as tie
 
 abbrev Inv-loop : tie.InvT-loop
-Inv-loop s n sheets₀ i₀ sheets i = i ≤ 4100
+Inv-loop s spaces n sheets₀ i₀ sheets i = i ≤ 4100
 
 abbrev μ-loop : tie.MeasureT-loop
-μ-loop s n sheets₀ i₀ sheets i = 4100 - i
+μ-loop s spaces n sheets₀ i₀ sheets i = 4100 - i
 
 loop-holds : tie.Need-loop-holds Inv-loop μ-loop
 loop-holds c = search needs

@@ -78,6 +78,9 @@ enum-told-16 c = search needs
 enum-told-17 : tie.Need-enum-told-17
 enum-told-17 c = search needs
 
+enum-told-18 : tie.Need-enum-told-18
+enum-told-18 c = search needs
+
 returns : tie.Need-returns
 returns c = told (c .enum-told .given .1) refl refl
 
@@ -144,6 +147,9 @@ returns-21 c = told (c .enum-told16 .given .1) refl refl
 returns-22 : tie.Need-returns-22
 returns-22 c = told (c .enum-told17 .given .1) refl refl
 
+returns-23 : tie.Need-returns-23
+returns-23 c = told (c .enum-told18 .given .1) refl refl
+
 pub numbered-spec : {M : Type 1} → statement M
 numbered-spec =
     tie.close
@@ -170,6 +176,7 @@ numbered-spec =
     enum-known-self-5
     enum-told-16
     enum-told-17
+    enum-told-18
     returns
     returns-2
     returns-3
@@ -191,4 +198,5 @@ numbered-spec =
     returns-19
     returns-20
     returns-21
-    returns-22)
+    returns-22
+    returns-23)

@@ -1,0 +1,102 @@
+-- A list is judged place by place, and a municipality has 1 to 400 sheets of 1:2 000, no two the same. Assumes nothing.
+use mathlib.Core.Path.{_≡_, refl, ap, _∙_}
+use mathlib.Core.Bool.{Bool, true, false}
+use mathlib.Core.List.{List, [], _∷_, List·Memᴰ}
+use Prim.Native.Nat.{ℕ, _+_, _≤_, _<_}
+use native.Mathlib.Omega.{arith}
+use borrow.Author.Tests.{eq-eqb, eqb-true}
+use lib.ListN.{length, getD, drop}
+use Rattle.refusal.specs.Paper.{answer, refused}
+use Rattle.refusal.specs.declared.Refusal.{Refusal}
+use Rattle.refusal.specs.declared.Refusal.the-variants.{NoSheet, NoMunicipality}
+use Rattle.refusal.specs.Numbers.{onPaper}
+use Rattle.refusal.proofs.PaperLaws.{passed, passed-test}
+use Rattle.rising.specs.Rising.{risingFrom}
+use Rattle.rising.proofs.RisingLaws.{head, rising-more, rising-judged, rising-falls, from-here}
+use Rattle.rising.proofs.RisingTheorems.{not-below, member-fine}
+use Rattle.division.specs.Words.{_=?_, between}
+use Rattle.division.specs.Table.{first, last}
+use Rattle.division.specs.Sheet.{isSheet, scaleOf}
+use Rattle.division.specs.Given.{IsScale}
+use Rattle.division.proofs.TestLaws.{between-in, in-between}
+use Rattle.division.proofs.TableLaws.{rules}
+use Rattle.division.proofs.NumberLaws.{Ranged, scale-is, ranged}
+use Rattle.local.specs.Municipality.{detail, municipality}
+use Rattle.local.specs.Given.{OfScale, Municipal}
+use Rattle.local.proofs.OrderLaws.{Rises, rises-apart}
+use Rattle.local.proofs.CountLaws.{Distinct}
+
+pub seven : IsScale 7
+seven = record { one = omega arith; nine = omega arith }
+
+-- ---- one number of the list
+
+module _ (k : ℕ) where
+  pub no-sheet : isSheet k ≡ false → detail k ≡ onPaper NoSheet
+  no-sheet e = rw e
+
+  fine : OfScale 7 k → detail k ≡ answer tt
+  fine d = rw (d .sheet, eq-eqb (scaleOf k) 7 (d .scale))
+
+  is-fine : detail k ≡ answer tt → OfScale 7 k
+  is-fine e =
+      let p = passed 3 (isSheet k) _ e in
+      record { sheet = p .0; scale = eqb-true (scaleOf k) 7 (passed-test 23 (scaleOf k =? 7) (p .1)) }
+
+  -- a sheet is of a scale exactly if its number is between the scale's first and last
+  module _ (s : ℕ) (h : IsScale s) where
+    pub in-range : between (first s) (last s) k ≡ true → scaleOf k ≡ s
+    in-range e =
+        let b = between-in (first s) (last s) k e in
+        scale-is s k (record { scale = h; low = b .0; high = omega (arith, b .1, rules h .some) })
+
+    of-scale : isSheet k ≡ true → scaleOf k ≡ s → between (first s) (last s) k ≡ true
+    of-scale e f =
+        let r : Ranged s k = rw f at (ranged k e) in
+        in-between (first s) (last s) k (r .low) (omega (arith, r .high))
+
+  pub other-scale : isSheet k ≡ true → between (first 7) (last 7) k ≡ false → detail k ≡ onPaper NoMunicipality
+  other-scale e f = by (scaleOf k =? 7) refl
+    where
+      by : (b : Bool) → (scaleOf k =? 7) ≡ b → detail k ≡ onPaper NoMunicipality
+      by true g = let t = of-scale 7 seven e (eqb-true (scaleOf k) 7 g) in let z : _≡_ {A = ℕ} 0 1 = cc in absurd (omega arith)
+      by false g = rw (e, g)
+
+-- ---- one place after the other
+
+module _ (s : List ℕ) (i least : ℕ) (inside : i < length s) where
+  pub judged-here : (why : Refusal) → detail (getD s i 0) ≡ onPaper why → risingFrom detail least (drop i s) ≡ onPaper why
+  judged-here why e = ap (risingFrom detail least) (from-here s i inside) ∙ rising-judged detail least (getD s i 0) (drop (i + 1) s) why e
+
+  pub falls : OfScale 7 (getD s i 0) → getD s i 0 < least → risingFrom detail least (drop i s) ≡ refused 15 0
+  falls d l = ap (risingFrom detail least) (from-here s i inside) ∙ rising-falls detail least (getD s i 0) (drop (i + 1) s) (fine (getD s i 0) d) l
+
+  pub goes-on : OfScale 7 (getD s i 0) → least ≤ getD s i 0 → risingFrom detail least (drop i s) ≡ risingFrom detail (getD s i 0 + 1) (drop (i + 1) s)
+  goes-on d l = ap (risingFrom detail least) (from-here s i inside) ∙ rising-more detail least (getD s i 0) (drop (i + 1) s) (fine (getD s i 0) d) l
+
+-- the places before i are judged
+pub record Judging (s : List ℕ) (least i : ℕ) : Type 0 where
+  pub upto : i ≤ length s
+  pub rest : risingFrom detail 0 s ≡ risingFrom detail least (drop i s)
+
+-- ---- what a municipality is
+
+numbers-rise : (least : ℕ) (s : List ℕ) → risingFrom detail least s ≡ answer tt → Rises (λ x. x) s
+numbers-rise least [] e = tt
+numbers-rise least (x ∷ s) e =
+    let f = head detail least x s e in
+    (λ y m. omega (arith, not-below detail (x + 1) s (f .later) m), numbers-rise (x + 1) s (f .later))
+
+module _ {s : List ℕ} (m : Municipal s) where
+  parts : (between 1 400 (length s) ≡ true) × (risingFrom detail 0 s ≡ answer tt)
+  unfolding municipality
+  parts = passed 23 (between 1 400 (length s)) _ (m .is)
+
+  pub few : length s ≤ 400
+  few = between-in 1 400 (length s) (parts .0) .1
+
+  pub detail-in : {k : ℕ} → List·Memᴰ k s → OfScale 7 k
+  detail-in {k} h = is-fine k (member-fine detail 0 s (parts .1) h)
+
+  pub distinct : Distinct s
+  distinct = rises-apart (λ x. x) s (numbers-rise 0 s (parts .1))

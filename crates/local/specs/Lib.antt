@@ -1,0 +1,6 @@
+pub mod Municipality
+pub mod Rows
+pub mod Numbers
+pub mod Answers
+pub mod Given
+pub mod Theorems

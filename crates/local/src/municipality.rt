@@ -1,0 +1,64 @@
+// The list of a municipality.
+use division::sheet::is_sheet;
+use division::table::Scale;
+use refusal::Refusal;
+ghost use mathlib.Core.Path.{_≡_};
+ghost use Rattle.refusal.specs.Numbers.{isIn};
+ghost use Rattle.rising.specs.Rising.{risingFrom};
+ghost use Rattle.local.specs.Municipality.{detail, municipality};
+ghost use Rattle.local.specs.Answers.{judgedPaper};
+
+// Whether a list is a municipality.
+pub enum Judged {
+    Fine,
+    Refused(Refusal),
+}
+
+// The refusal of the first faulty place, if there is one.
+fn places(sheets: &[u32]) -> Judged
+    ensures { λ r. ⌜ judgedPaper r ≡ risingFrom detail 0 (now (sheets .entry)) ⌝ }
+{
+    let first = Scale(7).first();
+    let last = Scale(7).last();
+    let mut least: u32 = 0;
+    let mut i: usize = 0;
+    while i < sheets.len() {
+        let sheet = sheets[i];
+        if !is_sheet(sheet) {
+            return Judged::Refused(Refusal::NoSheet);
+        }
+        if !((first <= sheet) & (sheet <= last)) {
+            return Judged::Refused(Refusal::NoMunicipality);
+        }
+        if sheet < least {
+            return Judged::Refused(Refusal::NotRising);
+        }
+        least = sheet + 1;
+        i += 1;
+    }
+    Judged::Fine
+}
+
+pub(crate) fn judge(sheets: &[u32]) -> Judged
+    ensures { λ r. ⌜ judgedPaper r ≡ municipality (now (sheets .entry)) ⌝ }
+{
+    let n = sheets.len();
+    if !((1 <= n) & (n <= 400)) {
+        return Judged::Refused(Refusal::NoMunicipality);
+    }
+    places(sheets)
+}
+
+// Whether a sheet is one of a list.
+pub(crate) fn has(sheets: &[u32], sheet: u32) -> bool
+    ensures { λ r. ⌜ r ≡ isIn (now (sheets .entry)) sheet ⌝ }
+{
+    let mut i: usize = 0;
+    while i < sheets.len() {
+        if sheet == sheets[i] {
+            return true;
+        }
+        i += 1;
+    }
+    false
+}
