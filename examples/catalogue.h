@@ -1,5 +1,5 @@
 /* What the examples over catalogues have in common: the accepted lines of a file, how refused ones are told, and rows. The program that
- * includes it has defined PROGRAM, by which it speaks of itself. */
+ * includes it has defined PROGRAM, by which it speaks of itself, and may have defined WORDS, which says in words what a number of refusal is. */
 #ifndef CATALOGUE_H
 #define CATALOGUE_H
 
@@ -19,7 +19,7 @@ struct line {
 
 struct catalogue {
     struct line *lines;
-    size_t count;
+    size_t count, refused;
 };
 
 static void *room(void *old, size_t size)
@@ -59,21 +59,35 @@ static uint8_t *bytes_of(const char *path, size_t *length)
 }
 
 /* Of a refusal that carries a place, whether or not it is 0, that place too. */
+static void print_refusal(FILE *file, uint32_t status, uint64_t place)
+{
+    fprintf(file, "refused %" PRIu32, status);
+    switch (status) {
+    case QUBATHIMI_LABEL_LENGTH:
+    case QUBATHIMI_STRANGE_BYTE:
+    case QUBATHIMI_FIELD_FORM:
+    case QUBATHIMI_NAMES_NO_SCALE:
+    case QUBATHIMI_FIELD_RANGE:
+        fprintf(file, " at %" PRIu64, place);
+    }
+#ifdef WORDS
+    fprintf(file, ": %s", WORDS(status));
+#endif
+}
+
 static void tell(const char *path, size_t number, uint32_t status, uint64_t place)
 {
-    fprintf(stderr, "%s: line %zu: refused %" PRIu32, path, number, status);
-    if (status != QUBATHIMI_NAME_SCALE && status != QUBATHIMI_NAME_FORM) {
-        fprintf(stderr, " at %" PRIu64, place);
-    }
+    fprintf(stderr, "%s: line %zu: ", path, number);
+    print_refusal(stderr, status, place);
     fprintf(stderr, "\n");
 }
 
-/* The accepted lines of a file. Their bytes stay where they are: a part is told by its places. */
+/* The accepted lines of a file, and how many were refused. Their bytes stay where they are: a part is told by its places. */
 static struct catalogue catalogue_of(const char *path)
 {
     size_t length, size = 1024, number = 0;
     const uint8_t *at = bytes_of(path, &length), *end = at + length;
-    struct catalogue all = {room(NULL, size * sizeof *all.lines), 0};
+    struct catalogue all = {room(NULL, size * sizeof *all.lines), 0, 0};
 
     while (at < end) {
         const uint8_t *feed = memchr(at, '\n', (size_t)(end - at));
@@ -82,6 +96,7 @@ static struct catalogue catalogue_of(const char *path)
         uint32_t status = qubathimi_read_line(at, n, &line.sheet);
         if (status != 0) {
             tell(path, number, status, line.sheet);
+            all.refused++;
         } else {
             qubathimi_line_parts(at, n, &line.label, &line.start, &line.end);
             if (all.count == size) {

@@ -2,8 +2,8 @@
  * local numbers and shelf lists.
  *
  * `rt staticlib qubathimi_c` proves the functions and writes target/staticlib/libqubathimi_c.a, for x86-64 Linux; link it with a program
- * that includes this header. Of the C library it calls memcpy and nothing else. It allocates nothing, needs no setting up and keeps
- * nothing between calls, so any number of them may run at once. examples/use.c shows it in use. docs/DEFINITION.md says what sheets,
+ * that includes this header. Of the C library it calls memcpy and memset and nothing else. It allocates nothing, needs no setting up and
+ * keeps nothing between calls, so any number of them may run at once. examples/use.c shows it in use. docs/DEFINITION.md says what sheets,
  * labels and lists are; "document 01" and "document 02" are the papers that it tells of.
  *
  * The convention. Seven functions cannot refuse and have their answer as the result: qubathimi_width, _height, _rows, _columns, _first,
@@ -214,12 +214,13 @@ uint32_t qubathimi_official_check(const uint8_t *line, size_t length, uint64_t *
 
 /* ---- Local numbers: those of a cadastral municipality's sheets, beside their labels ----
  *
- * A municipality is lent as the numbers of its 1:2 000 sheets (scale 7), 1 to 400 of them, strictly rising. These sheets have the numbers 1
- * to `count`, by rows of the whole grid from the north, each row from the west: not in the order of the list where the municipality lies in
- * several 1:50 000 sheets. A 1:1 000 sheet has the number n of the 1:2 000 sheet that it is a part of, and its own number there, a, 1 to 4; a
- * 1:500 sheet has the two of the 1:1 000 sheet that it is a part of, and its own number there, b, 1 to 4. Numbers that are absent are 0. Each of
- * the two functions leads back to what the other was asked. The list is looked at first: 23 where it is empty or above 400; then its first
- * faulty place, 3 for no sheet, 23 for a sheet of another scale, 15 for one that does not rise. */
+ * A municipality is lent as the numbers of its 1:2 000 sheets (scale 7), 1 to 400 of them, strictly rising. These sheets have the local
+ * numbers 1 to `count`, by rows of the whole grid from the north, each row from the west, which is not the order of the list where the
+ * municipality lies in 1:50 000 sheets side by side. A 1:1 000 sheet has two local numbers: n, that of the 1:2 000 sheet that it is a part
+ * of, and a, its own number in that sheet, 1 to 4. A 1:500 sheet has three: the two of the 1:1 000 sheet that it is a part of, and b, its
+ * own number in that one, 1 to 4. Those that are absent are 0. Each of the two functions leads back to what the other was asked. The list is
+ * looked at first: 23 where it has no sheet or more than 400; then its first faulty place, 3 for no sheet, 23 for a sheet of another scale,
+ * 15 for one that is not above the one before. examples/local.c numbers a municipality by these functions. */
 
 /* The sheet that has the local numbers n, a and b: a 1:2 000 sheet where a and b are 0, a 1:1 000 sheet where b is 0, and otherwise a 1:500
  * sheet. Refusals: 23, 3 and 15 of the list; 6 where no sheet of the municipality has them, so for n 0 or above `count`, for a or b above

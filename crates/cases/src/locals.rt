@@ -31,10 +31,10 @@ pub(crate) fn municipality(s: &[u8]) {
 fn asked(s: &[u8], sheets: &[u32]) {
     let asked = Local::of(small(s, 1), small(s, 2), small(s, 3));
     let t = write::comma(write::found(OUT, local_to_sheet(sheets, asked)));
-    known(t, sheet_to_local(sheets, small(s, 4)));
+    told(t, sheet_to_local(sheets, small(s, 4)));
 }
 
-fn known(to: u64, answer: Known) -> u64 {
+fn told(to: u64, answer: Known) -> u64 {
     match answer {
         Known::By(local) => numbers(to, local),
         Known::Refused(why) => write::refused(to, why),

@@ -19,8 +19,8 @@ use Rattle.frame.proofs.PointTheorems.{answered}
 use Rattle.frame.proofs.FrameTheorems.{frame-exact}
 use Rattle.local.specs.declared.Local.{Local}
 use Rattle.local.specs.declared.Local.the-variants.{One, Two, Three}
-use Rattle.local.specs.Municipality.{detail, municipality}
-use Rattle.local.specs.Numbers.{sheetNumbered, part, standsFor, localToSheet, numberOf, one, two, three, numbersOf, sheetToLocal}
+use Rattle.local.specs.Municipality.{of2000, municipality}
+use Rattle.local.specs.Numbers.{sheetNumbered, part, standsFor, localToSheet, numberOf, oneNumber, twoNumbers, threeNumbers, numbersOf, sheetToLocal}
 use Rattle.label.specs.Label.{labelOf, writeLabel, labelLength}
 use Rattle.label.proofs.PlaceTheorems.{refused-iff, place-within}
 use Rattle.catalogue.proofs.LineTheorems.{label-refuses}
@@ -37,40 +37,46 @@ name-gives : (n room : ℕ) → Gives (3 ∷ 22 ∷ 10 ∷ []) (writeName n room
 unfolding writeName
 name-gives n room = line-gives 3 (isSheet n) refl (line-gives 22 (is250000 n) refl (laid-gives (Option·getD (nameOf n) []) room refl))
 
--- a municipality is judged, and its parts are asked as any sheet's are
+-- a municipality is judged, and its sheets and their parts are asked as any sheet's are
+abbrev Municipal : {A : Type 0} → Paper A → Type 0
+Municipal p = Gives (23 ∷ 3 ∷ 15 ∷ 6 ∷ []) p
+
+municipality-gives : (sheets : List ℕ) → Municipal (municipality sheets)
+unfolding municipality
+municipality-gives sheets =
+    line-gives 23 (between 1 400 (length sheets)) refl (rising-gives of2000 (λ n. line-gives 3 (isSheet n) refl (test-gives 23 (scaleOf n =? 7) refl)) refl 0 sheets)
+
+part-gives : (scale number : ℕ) → isScale scale ≡ true → {above : Paper ℕ} → Municipal above → Municipal (part above scale number)
+unfolding child
+part-gives s a e g = found-gives g λ k. line-gives 3 (isSheet k) refl (rw e (line-gives 6 (isPart s (scaleOf k) a) refl answers))
+
+parent-gives : (k : ℕ) → Municipal (parent k)
+unfolding parent
+parent-gives k = line-gives 3 (isSheet k) refl (line-gives 6 (1 ≤? parentScale (scaleOf k)) refl answers)
+
 module _ (sheets : List ℕ) where
-  municipality-gives : Gives (23 ∷ 3 ∷ 15 ∷ 6 ∷ []) (municipality sheets)
-  unfolding municipality
-  municipality-gives =
-      let each : (n : ℕ) → Gives (23 ∷ 3 ∷ 15 ∷ 6 ∷ []) (detail n) = λ n. line-gives 3 (isSheet n) refl (test-gives 23 (scaleOf n =? 7) refl) in
-      line-gives 23 (between 1 400 (length sheets)) refl (rising-gives detail each refl 0 sheets)
+  sheet-gives : (n : ℕ) → Municipal (sheetNumbered sheets n)
+  unfolding sheetNumbered
+  sheet-gives n = line-gives 6 (between 1 (length sheets) n) refl answers
 
-  part-gives : (scale number : ℕ) → isScale scale ≡ true → {above : Paper ℕ} → Gives (23 ∷ 3 ∷ 15 ∷ 6 ∷ []) above → Gives (23 ∷ 3 ∷ 15 ∷ 6 ∷ []) (part above scale number)
-  unfolding child
-  part-gives s a e g = found-gives g λ k. line-gives 3 (isSheet k) refl (rw e (line-gives 6 (isPart s (scaleOf k) a) refl answers))
+  local-gives : (local : Local) → Municipal (standsFor sheets local)
+  unfolding standsFor
+  local-gives (One n) = sheet-gives n
+  local-gives (Two n a) = part-gives 8 a refl (sheet-gives n)
+  local-gives (Three n a b) = part-gives 9 b refl (part-gives 8 a refl (sheet-gives n))
 
-  local-gives : (local : Local) → Gives (23 ∷ 3 ∷ 15 ∷ 6 ∷ []) (standsFor sheets local)
-  unfolding standsFor sheetNumbered
-  local-gives (One n) = line-gives 6 (between 1 (length sheets) n) refl answers
-  local-gives (Two n a) = part-gives 8 a refl (line-gives 6 (between 1 (length sheets) n) refl answers)
-  local-gives (Three n a b) = part-gives 9 b refl (part-gives 8 a refl (line-gives 6 (between 1 (length sheets) n) refl answers))
-
-  parent-gives : (k : ℕ) → Gives (23 ∷ 3 ∷ 15 ∷ 6 ∷ []) (parent k)
-  unfolding parent
-  parent-gives k = line-gives 3 (isSheet k) refl (line-gives 6 (1 ≤? parentScale (scaleOf k)) refl answers)
-
-  number-of-gives : {A : Type 0} (k : ℕ) {next : ℕ → Paper A} → ((n : ℕ) → Gives (23 ∷ 3 ∷ 15 ∷ 6 ∷ []) (next n)) → Gives (23 ∷ 3 ∷ 15 ∷ 6 ∷ []) (numberOf sheets k >>= next)
+  place-gives : {A : Type 0} (k : ℕ) {next : ℕ → Paper A} → ((n : ℕ) → Municipal (next n)) → Municipal (numberOf sheets k >>= next)
   unfolding numberOf
-  number-of-gives k g = found-gives (line-gives 6 (isIn sheets k) refl answers) g
+  place-gives k g = found-gives (line-gives 6 (isIn sheets k) refl answers) g
 
-  known-gives : (n : ℕ) → Gives (23 ∷ 3 ∷ 15 ∷ 6 ∷ []) (numbersOf sheets n)
-  unfolding numbersOf one two three
+  known-gives : (n : ℕ) → Municipal (numbersOf sheets n)
+  unfolding numbersOf oneNumber twoNumbers threeNumbers
   known-gives n = line-gives 3 (isSheet n) refl (line-gives 6 (7 ≤? scaleOf n) refl (by (scaleOf n =? 7) (scaleOf n =? 8)))
     where
-      by : (a b : Bool) → Gives (23 ∷ 3 ∷ 15 ∷ 6 ∷ []) (cond a (one sheets n) (cond b (two sheets n) (three sheets n)))
-      by true b = number-of-gives n λ i. answers
-      by false true = found-gives (parent-gives n) λ up. number-of-gives up λ i. answers
-      by false false = found-gives (parent-gives n) λ up. found-gives (parent-gives up) λ top. number-of-gives top λ i. answers
+      by : (a b : Bool) → Municipal (cond a (oneNumber sheets n) (cond b (twoNumbers sheets n) (threeNumbers sheets n)))
+      by true b = place-gives n λ i. answers
+      by false true = found-gives (parent-gives n) λ up. place-gives up λ i. answers
+      by false false = found-gives (parent-gives n) λ up. found-gives (parent-gives up) λ top. place-gives top λ i. answers
 
 pub refusals-numbered : RefusalsNumbered
 unfolding sheetAt locate sheetOn cornersOf frameOf frameAtMetres parent child step walk offset cover blockIn writeLabel labelLength nameTold checkLine checkAt writeIn lengthIn readIn behindIn localToSheet sheetToLocal
@@ -101,7 +107,7 @@ refusals-numbered = record {
   named = λ n room. found-gives (name-gives n room) λ written. answers;
   checks = λ line. found-gives (line-of-gives (label-gives refl refl refl refl refl) refl refl line) λ n. line-gives 22 (is250000 n) refl answers;
   locals = λ sheets local. then-gives (municipality-gives sheets) (local-gives sheets local);
-  known = λ sheets n. then-gives (municipality-gives sheets) (known-gives sheets n);
+  localised = λ sheets n. then-gives (municipality-gives sheets) (known-gives sheets n);
   lists = λ sheets room. then-gives (set-gives ofSheets (λ n. test-gives 3 (isSheet n) refl) refl refl sheets) (laid-gives (listBytes sheets) room refl);
   sized = λ sheets. then-gives (set-gives ofSheets (λ n. test-gives 3 (isSheet n) refl) refl refl sheets) answers;
   reading = λ bytes room.

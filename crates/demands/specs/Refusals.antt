@@ -62,7 +62,7 @@ pub record RefusalsNumbered : Type 0 where
   pub checks : (line : List ℕ) → Gives (4 ∷ 19 ∷ 20 ∷ 21 ∷ 5 ∷ 17 ∷ 16 ∷ 22 ∷ []) (checkLine line)
   -- document 02, f): "23 for an empty or too long list; then its first faulty place, with 3, 23 .. and 15 in that order; then 3 and 6"
   pub locals : (sheets : List ℕ) (local : Local) → Gives (23 ∷ 3 ∷ 15 ∷ 6 ∷ []) (localToSheet sheets local)
-  pub known : (sheets : List ℕ) (n : ℕ) → Gives (23 ∷ 3 ∷ 15 ∷ 6 ∷ []) (sheetToLocal sheets n)
+  pub localised : (sheets : List ℕ) (n : ℕ) → Gives (23 ∷ 3 ∷ 15 ∷ 6 ∷ []) (sheetToLocal sheets n)
   pub lists : (sheets : List ℕ) (room : ℕ) → Gives (9 ∷ 3 ∷ 15 ∷ 10 ∷ []) (writeList sheets room)
   pub sized : (sheets : List ℕ) → Gives (9 ∷ 3 ∷ 15 ∷ []) (listLength sheets)
   -- "11 .. 12 .. a count above the lent room gives 10. Each entry then gives 11, 12, 13 or a sheet. After the last entry .. 14"

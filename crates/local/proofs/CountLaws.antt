@@ -51,12 +51,12 @@ module _ (l : List ℕ) (i k : ℕ) where
   in-no-more h = rw (drop-of-length-le l h)
 
 -- x is none of a list; no two of a list are the same
-abbrev pub Apart : ℕ → List ℕ → Type 0
-Apart x l = (y : ℕ) → List·Memᴰ y l → x ≡ y → ⊥
+abbrev pub NoneOf : ℕ → List ℕ → Type 0
+NoneOf x l = (y : ℕ) → List·Memᴰ y l → x ≡ y → ⊥
 
 abbrev pub Distinct : List ℕ → Type 0
 Distinct [] = Unit {0}
-Distinct (x ∷ l) = Apart x l × Distinct l
+Distinct (x ∷ l) = NoneOf x l × Distinct l
 
 -- ---- where it stands
 
@@ -118,7 +118,7 @@ module _ (p : ℕ → Bool) where
       by true e = ap suc e
       by false e = e
 
--- none is below 0, so where a number is reached, the bound is more
+-- none is below 0, so where a number is reached, the bound is above 0
 none-below : (l : List ℕ) → countBelow 0 l ≡ 0
 none-below l = count-none (λ x. x <? 0) l (λ y m. le-ltb y 0 (omega arith))
 
@@ -146,7 +146,8 @@ module _ (p : ℕ → Bool) where
       let n : (z =? x) ≡ false = ne-eqb z x (d .0 x m) in
       rw n (by (f z) (pick-one x f e (d .1) m))
     where
-      by : (b : Bool) → count p (keep (λ y. y =? x || f y) l) ≡ boolByte (p x) + count p (keep f l) → count p (cond b (z ∷ keep (λ y. y =? x || f y) l) (keep (λ y. y =? x || f y) l)) ≡ boolByte (p x) + count p (cond b (z ∷ keep f l) (keep f l))
+      by : (b : Bool) → count p (keep (λ y. y =? x || f y) l) ≡ boolByte (p x) + count p (keep f l)
+          → count p (cond b (z ∷ keep (λ y. y =? x || f y) l) (keep (λ y. y =? x || f y) l)) ≡ boolByte (p x) + count p (cond b (z ∷ keep f l) (keep f l))
       by true e = omega (arith, e, count-cons p z (keep (λ y. y =? x || f y) l), count-cons p z (keep f l))
       by false e = e
 

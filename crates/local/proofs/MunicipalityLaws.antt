@@ -21,9 +21,9 @@ use Rattle.division.specs.Given.{IsScale}
 use Rattle.division.proofs.TestLaws.{between-in, in-between}
 use Rattle.division.proofs.TableLaws.{rules}
 use Rattle.division.proofs.NumberLaws.{Ranged, scale-is, ranged}
-use Rattle.local.specs.Municipality.{detail, municipality}
+use Rattle.local.specs.Municipality.{of2000, municipality}
 use Rattle.local.specs.Given.{OfScale, Municipal}
-use Rattle.local.proofs.OrderLaws.{Rises, rises-apart}
+use Rattle.local.proofs.OrderLaws.{RisesBy, rises-apart}
 use Rattle.local.proofs.CountLaws.{Distinct}
 
 pub seven : IsScale 7
@@ -32,13 +32,13 @@ seven = record { one = omega arith; nine = omega arith }
 -- ---- one number of the list
 
 module _ (k : ℕ) where
-  pub no-sheet : isSheet k ≡ false → detail k ≡ onPaper NoSheet
+  pub no-sheet : isSheet k ≡ false → of2000 k ≡ onPaper NoSheet
   no-sheet e = rw e
 
-  fine : OfScale 7 k → detail k ≡ answer tt
+  fine : OfScale 7 k → of2000 k ≡ answer tt
   fine d = rw (d .sheet, eq-eqb (scaleOf k) 7 (d .scale))
 
-  is-fine : detail k ≡ answer tt → OfScale 7 k
+  is-fine : of2000 k ≡ answer tt → OfScale 7 k
   is-fine e =
       let p = passed 3 (isSheet k) _ e in
       record { sheet = p .0; scale = eqb-true (scaleOf k) 7 (passed-test 23 (scaleOf k =? 7) (p .1)) }
@@ -55,48 +55,48 @@ module _ (k : ℕ) where
         let r : Ranged s k = rw f at (ranged k e) in
         in-between (first s) (last s) k (r .low) (omega (arith, r .high))
 
-  pub other-scale : isSheet k ≡ true → between (first 7) (last 7) k ≡ false → detail k ≡ onPaper NoMunicipality
+  pub other-scale : isSheet k ≡ true → between (first 7) (last 7) k ≡ false → of2000 k ≡ onPaper NoMunicipality
   other-scale e f = by (scaleOf k =? 7) refl
     where
-      by : (b : Bool) → (scaleOf k =? 7) ≡ b → detail k ≡ onPaper NoMunicipality
+      by : (b : Bool) → (scaleOf k =? 7) ≡ b → of2000 k ≡ onPaper NoMunicipality
       by true g = let t = of-scale 7 seven e (eqb-true (scaleOf k) 7 g) in let z : _≡_ {A = ℕ} 0 1 = cc in absurd (omega arith)
       by false g = rw (e, g)
 
 -- ---- one place after the other
 
 module _ (s : List ℕ) (i least : ℕ) (inside : i < length s) where
-  pub judged-here : (why : Refusal) → detail (getD s i 0) ≡ onPaper why → risingFrom detail least (drop i s) ≡ onPaper why
-  judged-here why e = ap (risingFrom detail least) (from-here s i inside) ∙ rising-judged detail least (getD s i 0) (drop (i + 1) s) why e
+  pub judged-here : (why : Refusal) → of2000 (getD s i 0) ≡ onPaper why → risingFrom of2000 least (drop i s) ≡ onPaper why
+  judged-here why e = ap (risingFrom of2000 least) (from-here s i inside) ∙ rising-judged of2000 least (getD s i 0) (drop (i + 1) s) why e
 
-  pub falls : OfScale 7 (getD s i 0) → getD s i 0 < least → risingFrom detail least (drop i s) ≡ refused 15 0
-  falls d l = ap (risingFrom detail least) (from-here s i inside) ∙ rising-falls detail least (getD s i 0) (drop (i + 1) s) (fine (getD s i 0) d) l
+  pub falls : OfScale 7 (getD s i 0) → getD s i 0 < least → risingFrom of2000 least (drop i s) ≡ refused 15 0
+  falls d l = ap (risingFrom of2000 least) (from-here s i inside) ∙ rising-falls of2000 least (getD s i 0) (drop (i + 1) s) (fine (getD s i 0) d) l
 
-  pub goes-on : OfScale 7 (getD s i 0) → least ≤ getD s i 0 → risingFrom detail least (drop i s) ≡ risingFrom detail (getD s i 0 + 1) (drop (i + 1) s)
-  goes-on d l = ap (risingFrom detail least) (from-here s i inside) ∙ rising-more detail least (getD s i 0) (drop (i + 1) s) (fine (getD s i 0) d) l
+  pub goes-on : OfScale 7 (getD s i 0) → least ≤ getD s i 0 → risingFrom of2000 least (drop i s) ≡ risingFrom of2000 (getD s i 0 + 1) (drop (i + 1) s)
+  goes-on d l = ap (risingFrom of2000 least) (from-here s i inside) ∙ rising-more of2000 least (getD s i 0) (drop (i + 1) s) (fine (getD s i 0) d) l
 
 -- the places before i are judged
 pub record Judging (s : List ℕ) (least i : ℕ) : Type 0 where
   pub upto : i ≤ length s
-  pub rest : risingFrom detail 0 s ≡ risingFrom detail least (drop i s)
+  pub rest : risingFrom of2000 0 s ≡ risingFrom of2000 least (drop i s)
 
 -- ---- what a municipality is
 
-numbers-rise : (least : ℕ) (s : List ℕ) → risingFrom detail least s ≡ answer tt → Rises (λ x. x) s
+numbers-rise : (least : ℕ) (s : List ℕ) → risingFrom of2000 least s ≡ answer tt → RisesBy (λ x. x) s
 numbers-rise least [] e = tt
 numbers-rise least (x ∷ s) e =
-    let f = head detail least x s e in
-    (λ y m. omega (arith, not-below detail (x + 1) s (f .later) m), numbers-rise (x + 1) s (f .later))
+    let f = head of2000 least x s e in
+    (λ y m. omega (arith, not-below of2000 (x + 1) s (f .later) m), numbers-rise (x + 1) s (f .later))
 
 module _ {s : List ℕ} (m : Municipal s) where
-  parts : (between 1 400 (length s) ≡ true) × (risingFrom detail 0 s ≡ answer tt)
+  parts : (between 1 400 (length s) ≡ true) × (risingFrom of2000 0 s ≡ answer tt)
   unfolding municipality
   parts = passed 23 (between 1 400 (length s)) _ (m .is)
 
   pub few : length s ≤ 400
   few = between-in 1 400 (length s) (parts .0) .1
 
-  pub detail-in : {k : ℕ} → List·Memᴰ k s → OfScale 7 k
-  detail-in {k} h = is-fine k (member-fine detail 0 s (parts .1) h)
+  pub member-scale : {k : ℕ} → List·Memᴰ k s → OfScale 7 k
+  member-scale {k} h = is-fine k (member-fine of2000 0 s (parts .1) h)
 
   pub distinct : Distinct s
   distinct = rises-apart (λ x. x) s (numbers-rise 0 s (parts .1))

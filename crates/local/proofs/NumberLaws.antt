@@ -1,5 +1,5 @@
 -- The questions line by line: the list is judged, then what is asked; and a part has one parent and one number there. Assumes nothing.
-use mathlib.Core.Path.{_≡_, sym, ap, _∙_, subst}
+use mathlib.Core.Path.{_≡_, refl, sym, ap, _∙_, subst}
 use mathlib.Core.Bool.{true, false}
 use mathlib.Core.List.{List}
 use Prim.Native.Nat.{ℕ, _+_, _%_, _≤_, _<_}
@@ -18,12 +18,13 @@ use Rattle.division.proofs.FamilyLaws.{deep-place, parted}
 use Rattle.relations.specs.Relations.{parent, child}
 use Rattle.relations.proofs.RelationLaws.{Child, child-deep}
 use Rattle.relations.proofs.RelationTheorems.{child-answered, child-scale, child-is-at, parent-has-child}
+use Rattle.local.specs.declared.Local.{Local}
 use Rattle.local.specs.declared.Local.the-variants.{One, Two, Three}
 use Rattle.local.specs.declared.municipality.Judged.{Judged}
 use Rattle.local.specs.declared.municipality.Judged.the-variants as judged
 use Rattle.local.specs.Municipality.{municipality}
 use Rattle.local.specs.Rows.{byRows, placeIn}
-use Rattle.local.specs.Numbers.{partNumber, numberOf, one, two, three, numbersOf}
+use Rattle.local.specs.Numbers.{localToSheet, partNumber, numberOf, oneNumber, twoNumbers, threeNumbers, numbersOf, sheetToLocal}
 use Rattle.local.specs.Answers.{judgedPaper}
 use Rattle.local.specs.Given.{OfScale, Part, Municipal}
 
@@ -35,6 +36,11 @@ module _ (s : List ℕ) {r : Judged} (e : judgedPaper r ≡ municipality s) wher
 
   pub judged-refused : {A : Type 0} {why : Refusal} (next : Paper A) → r ≡ judged.Refused why → onPaper why ≡ (municipality s >> next)
   judged-refused {why = why} next f = sym (judge-refuses why next (sym e ∙ ap judgedPaper f))
+
+-- what is wrong with the list is told before anything of what is asked
+pub list-first : (s : List ℕ) (number value : ℕ) → municipality s ≡ refused number value → (l : Local) (k : ℕ) → (localToSheet s l ≡ refused number value) × (sheetToLocal s k ≡ refused number value)
+unfolding localToSheet sheetToLocal
+list-first s number value e l k = (rw e refl, rw e refl)
 
 pub then-asked : {A : Type 0} {s : List ℕ} (next : Paper A) → Municipal s → next ≡ (municipality s >> next)
 then-asked next m = rw (m .is)
@@ -48,7 +54,7 @@ module _ {k : ℕ} (p : Part k) where
       let t : 1 ≤ parentScale (scaleOf k) = leb-true 1 (parentScale (scaleOf k)) (h ∙ le-leb 4 (scaleOf k) (omega (arith, p .scale))) in
       omega arith
 
-  has-parent : isAnswer (parent k) ≡ true
+  pub has-parent : isAnswer (parent k) ≡ true
   unfolding parent
   has-parent = rw (p .sheet, rules (ranged k (p .sheet) .scale) .has-parent, le-leb 4 (scaleOf k) (omega (arith, p .scale)))
 
@@ -119,30 +125,30 @@ module _ (s : List ℕ) (k : ℕ) where
   outside e = rw e
 
 module _ (s : List ℕ) (k : ℕ) where
-  pub one-outside : isIn s k ≡ false → one s k ≡ refused 6 0
-  unfolding one
+  pub one-outside : isIn s k ≡ false → oneNumber s k ≡ refused 6 0
+  unfolding oneNumber
   one-outside e = rw (outside s k e)
 
-  pub one-is : isIn s k ≡ true → one s k ≡ answer (One (1 + placeIn k (byRows s)))
-  unfolding one
+  pub one-is : isIn s k ≡ true → oneNumber s k ≡ answer (One (1 + placeIn k (byRows s)))
+  unfolding oneNumber
   one-is e = rw (numbered s k e)
 
   module _ {up : ℕ} (p : parent k ≡ answer up) where
-    pub two-outside : isIn s up ≡ false → two s k ≡ refused 6 0
-    unfolding two
+    pub two-outside : isIn s up ≡ false → twoNumbers s k ≡ refused 6 0
+    unfolding twoNumbers
     two-outside e = rw (p, outside s up e)
 
-    pub two-is : isIn s up ≡ true → two s k ≡ answer (Two (1 + placeIn up (byRows s)) (partNumber k))
-    unfolding two
+    pub two-is : isIn s up ≡ true → twoNumbers s k ≡ answer (Two (1 + placeIn up (byRows s)) (partNumber k))
+    unfolding twoNumbers
     two-is e = rw (p, numbered s up e)
 
     module _ {top : ℕ} (q : parent up ≡ answer top) where
-      pub three-outside : isIn s top ≡ false → three s k ≡ refused 6 0
-      unfolding three
+      pub three-outside : isIn s top ≡ false → threeNumbers s k ≡ refused 6 0
+      unfolding threeNumbers
       three-outside e = rw (p, q, outside s top e)
 
-      pub three-is : isIn s top ≡ true → three s k ≡ answer (Three (1 + placeIn top (byRows s)) (partNumber up) (partNumber k))
-      unfolding three
+      pub three-is : isIn s top ≡ true → threeNumbers s k ≡ answer (Three (1 + placeIn top (byRows s)) (partNumber up) (partNumber k))
+      unfolding threeNumbers
       three-is e = rw (p, q, numbered s top e)
 
 -- ---- the scale of the sheet asked
@@ -153,21 +159,24 @@ module _ (s : List ℕ) (k : ℕ) where
   numbers-no-sheet e = rw e
 
   module _ (e : isSheet k ≡ true) where
-    pub numbers-at-7 : scaleOf k ≡ 7 → numbersOf s k ≡ one s k
+    pub numbers-at-7 : scaleOf k ≡ 7 → numbersOf s k ≡ oneNumber s k
     unfolding numbersOf
     numbers-at-7 f = rw (e, f)
 
-    pub numbers-at-8 : scaleOf k ≡ 8 → numbersOf s k ≡ two s k
+    pub numbers-at-8 : scaleOf k ≡ 8 → numbersOf s k ≡ twoNumbers s k
     unfolding numbersOf
     numbers-at-8 f = rw (e, f)
 
-    pub numbers-at-9 : scaleOf k ≡ 9 → numbersOf s k ≡ three s k
+    pub numbers-at-9 : scaleOf k ≡ 9 → numbersOf s k ≡ threeNumbers s k
     unfolding numbersOf
     numbers-at-9 f = rw (e, f)
 
-    pub numbers-at-none : (scaleOf k ≡ 7 → ⊥) → (scaleOf k ≡ 8 → ⊥) → (scaleOf k ≡ 9 → ⊥) → numbersOf s k ≡ refused 6 0
+    pub numbers-below-7 : scaleOf k < 7 → numbersOf s k ≡ refused 6 0
     unfolding numbersOf
-    numbers-at-none a b c = rw (e, lt-leb 7 (scaleOf k) (less-than-seven (scaleOf k) a b c (ranged k e .scale .nine)))
+    numbers-below-7 f = rw (e, lt-leb 7 (scaleOf k) f)
+
+    pub numbers-at-none : (scaleOf k ≡ 7 → ⊥) → (scaleOf k ≡ 8 → ⊥) → (scaleOf k ≡ 9 → ⊥) → numbersOf s k ≡ refused 6 0
+    numbers-at-none a b c = numbers-below-7 (less (scaleOf k) a b c (ranged k e .scale .nine))
       where
-        less-than-seven : (s : ℕ) → (s ≡ 7 → ⊥) → (s ≡ 8 → ⊥) → (s ≡ 9 → ⊥) → s ≤ 9 → s < 7
-        less-than-seven s a b c h = omega (arith, a, b, c)
+        less : (s : ℕ) → (s ≡ 7 → ⊥) → (s ≡ 8 → ⊥) → (s ≡ 9 → ⊥) → s ≤ 9 → s < 7
+        less s a b c h = omega (arith, a, b, c)

@@ -28,10 +28,10 @@ use Rattle.division.proofs.WindowLaws.{columns-run, rows-run}
 use Rattle.division.proofs.MemberLaws.{keep-has, has-keep, has-from, has-block}
 use Rattle.division.proofs.CoverTheorems.{in-order}
 use Rattle.local.specs.Rows.{byRows, placeIn}
-use Rattle.local.specs.Given.{OfScale, Municipal, OneOf, Numbered, countBelow, Reaches, IsNth}
+use Rattle.local.specs.Given.{OfScale, Municipal, OneOf, HasNumber, countBelow, Reaches, IsNth}
 use Rattle.local.proofs.CountLaws.{in-mem, mem-in, mem-at, map-at, place-in, count, count-all, count-map, pick-all}
-use Rattle.local.proofs.OrderLaws.{Rises, rises-apart, keep-rises, smaller, rank, nth-key}
-use Rattle.local.proofs.MunicipalityLaws.{seven, few, detail-in, distinct}
+use Rattle.local.proofs.OrderLaws.{RisesBy, rises-apart, keep-rises, smaller, rank, nth-key}
+use Rattle.local.proofs.MunicipalityLaws.{seven, few, member-scale, distinct}
 
 -- ---- the whole grid
 
@@ -55,41 +55,41 @@ unfolding table tableRow rowsOf
 all-rows = rows-run seen .listed
 
 -- what stands in the order of a grid's rows rises
-rises : {l : List ℕ} → Pairwise (λ a b. readingOrder a < readingOrder b) l → Rises readingOrder l
+rises : {l : List ℕ} → Pairwise (λ a b. readingOrder a < readingOrder b) l → RisesBy readingOrder l
 rises {l = []} Pairwise·nil = tt
 rises {l = x ∷ l} (Pairwise·cons h p) = (λ y m. h y ∣ m ∣₁, rises p)
 
-grid-rises : Rises readingOrder (sheetsIn 7 area)
+grid-rises : RisesBy readingOrder (sheetsIn 7 area)
 grid-rises = rises (in-order seen)
 
 module _ {k : ℕ} (d : OfScale 7 k) where
-  pub detail-on : OnGrid 7 (placeOf k)
-  detail-on = subst (λ (s : ℕ). OnGrid s (placeOf k)) (d .scale) (on-grid k (d .sheet))
+  pub placed-7 : OnGrid 7 (placeOf k)
+  placed-7 = subst (λ (s : ℕ). OnGrid s (placeOf k)) (d .scale) (on-grid k (d .sheet))
 
-  detail-at : sheetOf 7 (placeOf k) ≡ k
-  detail-at = subst (λ (s : ℕ). sheetOf s (placeOf k) ≡ k) (d .scale) (sheet-place k (d .sheet))
+  numbered-7 : sheetOf 7 (placeOf k) ≡ k
+  numbered-7 = subst (λ (s : ℕ). sheetOf s (placeOf k) ≡ k) (d .scale) (sheet-place k (d .sheet))
 
   grid-has : List·Memᴰ k (sheetsIn 7 area)
   grid-has =
-      let o = detail-on in
+      let o = placed-7 in
       let r = has-from 0 (rows 7) (placeOf k .row) (omega arith) (omega (arith, o .in-rows)) in
       let c = has-from 0 (columns 7) (placeOf k .column) (omega arith) (omega (arith, o .in-columns)) in
-      rw (all-rows, all-columns) (subst (λ (j : ℕ). List·Memᴰ j (block 7 (from 0 (rows 7)) (from 0 (columns 7)))) detail-at (has-block 7 (from 0 (columns 7)) r c))
+      rw (all-rows, all-columns) (subst (λ (j : ℕ). List·Memᴰ j (block 7 (from 0 (rows 7)) (from 0 (columns 7)))) numbered-7 (has-block 7 (from 0 (columns 7)) r c))
 
   -- its order is its row and its column on the grid
   pub order-is : readingOrder k ≡ placeOf k .row * columns 7 + placeOf k .column
   order-is = ap (λ (s : ℕ). placeOf k .row * columns s + placeOf k .column) (d .scale)
 
   order-in : readingOrder k < rows 7 * columns 7
-  order-in = rw order-is (digits-lt (detail-on .in-rows) (detail-on .in-columns))
+  order-in = rw order-is (digits-lt (placed-7 .in-rows) (placed-7 .in-columns))
 
   -- so the order, cut into rows, tells its place
   order-place : (v : ℕ) → readingOrder k ≡ v → sheetOf 7 (areaPlace (columns 7) v) ≡ k
   order-place v e =
-      let o = detail-on in
+      let o = placed-7 in
       let f : v ≡ placeOf k .row * columns 7 + placeOf k .column = sym e ∙ order-is in
       let p : areaPlace (columns 7) v ≡ placeOf k = place (ap (λ (n : ℕ). n / columns 7) f ∙ digits-div (placeOf k .row) (o .in-columns)) (ap (λ (n : ℕ). n % columns 7) f ∙ digits-mod (placeOf k .row) (o .in-columns)) in
-      ap (sheetOf 7) p ∙ detail-at
+      ap (sheetOf 7) p ∙ numbered-7
 
   -- ---- worked out from its index: its 1:50 000 sheet, and its place in that
 
@@ -103,11 +103,11 @@ module _ {k : ℕ} (d : OfScale 7 k) where
       let one : i % 625 + 1 - 1 ≡ i % 625 = omega arith in
       ap (λ (s : ℕ). areaIndex (columns s) (placeAt (made s) (k - first s))) (d .scale) ∙ rw one
 
--- of two places in rows of 500 the one with the smaller order is in an earlier row, or in the same row in an earlier column
 pub columns-are : columns 7 ≡ 500
 unfolding table tableRow columnsOf
 columns-are = refl
 
+-- of two places in rows of 500 the one with the smaller order is in an earlier row, or in the same row in an earlier column
 pub row-first : (a b c d : ℕ) → b < 500 → d < 500 → (a * 500 + b < c * 500 + d) ↔ ((a < c) ⊎ ((a ≡ c) × (b < d)))
 row-first a b c d h l =
     (λ e. ⊎-elim (λ g. inr (omega arith, omega arith)) inl (le-or-less c a), λ e. ⊎-elim (λ g. omega arith) (λ g. omega (arith, g .0, g .1)) e)
@@ -130,22 +130,22 @@ module _ (s all : List ℕ) (i : ℕ) where
 
 -- ---- a municipality by rows
 
-module _ {s : List ℕ} (m : Municipal s) where
-  pub rows-rise : Rises readingOrder (byRows s)
-  unfolding byRows
-  rows-rise = keep-rises readingOrder (isIn s) (sheetsIn 7 area) grid-rises
+pub rows-rise : (s : List ℕ) → RisesBy readingOrder (byRows s)
+unfolding byRows
+rows-rise s = keep-rises readingOrder (isIn s) (sheetsIn 7 area) grid-rises
 
+pub from-rows : (s : List ℕ) {k : ℕ} → List·Memᴰ k (byRows s) → List·Memᴰ k s
+unfolding byRows
+from-rows s {k} h = in-mem k s (keep-has (isIn s) (sheetsIn 7 area) h .1)
+
+module _ {s : List ℕ} (m : Municipal s) where
   pub into-rows : {k : ℕ} → List·Memᴰ k s → List·Memᴰ k (byRows s)
   unfolding byRows
-  into-rows {k} h = has-keep (isIn s) (mem-in k h) (grid-has (detail-in m h))
-
-  pub from-rows : {k : ℕ} → List·Memᴰ k (byRows s) → List·Memᴰ k s
-  unfolding byRows
-  from-rows {k} h = in-mem k s (keep-has (isIn s) (sheetsIn 7 area) h .1)
+  into-rows {k} h = has-keep (isIn s) (mem-in k h) (grid-has (member-scale m h))
 
   count-rows : (p : ℕ → Bool) → count p (byRows s) ≡ count p s
   unfolding byRows
-  count-rows p = pick-all p s (distinct m) (rises-apart readingOrder (sheetsIn 7 area) grid-rises) (λ y h. grid-has (detail-in m h))
+  count-rows p = pick-all p s (distinct m) (rises-apart readingOrder (sheetsIn 7 area) grid-rises) (λ y h. grid-has (member-scale m h))
 
   -- "from 1 to n"
   pub length-rows : length (byRows s) ≡ length s
@@ -156,12 +156,12 @@ module _ {s : List ℕ} (m : Municipal s) where
   below-is bound = count-map (λ x. x <? bound) readingOrder s ∙ sym (count-rows (λ k. readingOrder k <? bound))
 
   pub place-is : {k : ℕ} → List·Memᴰ k s → countBelow (readingOrder k) (map readingOrder s) ≡ placeIn k (byRows s)
-  place-is {k} h = below-is (readingOrder k) ∙ sym (rank readingOrder k rows-rise (into-rows h))
+  place-is {k} h = below-is (readingOrder k) ∙ sym (rank readingOrder k (rows-rise s) (into-rows h))
 
   nth-is : (n bound v : ℕ) → 1 ≤ n → n ≤ length s → IsNth (map readingOrder s) n bound v → sheetOf 7 (areaPlace (columns 7) v) ≡ getD (byRows s) (n - 1) 0
   nth-is n bound v one last t =
-      let e : readingOrder (getD (byRows s) (n - 1) 0) ≡ v = nth-key readingOrder (byRows s) rows-rise n v (omega (arith, below-is v, t .few)) (omega (arith, below-is (v + 1), t .enough)) in
-      order-place (detail-in m (from-rows (mem-at (byRows s) (n - 1) (omega (arith, length-rows))))) v e
+      let e : readingOrder (getD (byRows s) (n - 1) 0) ≡ v = nth-key readingOrder (byRows s) (rows-rise s) n v (omega (arith, below-is v, t .few)) (omega (arith, below-is (v + 1), t .enough)) in
+      order-place (member-scale m (from-rows s (mem-at (byRows s) (n - 1) (omega (arith, length-rows))))) v e
 
 -- a list of orders that begins with a municipality's is long enough for them
 pub orders-fit : (s all : List ℕ) → take (length s) all ≡ map readingOrder s → (length s ≤ length all) × (length s ≡ length (take (length s) all))
@@ -174,8 +174,8 @@ module _ {k : ℕ} {s : List ℕ} (o : OneOf k s) where
   one-mem : List·Memᴰ k s
   one-mem = in-mem k s (o .one)
 
-  pub one-detail : OfScale 7 k
-  one-detail = detail-in (o .all) one-mem
+  pub one-scale : OfScale 7 k
+  one-scale = member-scale (o .all) one-mem
 
   pub counted-place : (all : List ℕ) {at r : ℕ} → take (length s) all ≡ map readingOrder s → at ≡ readingOrder k → r ≡ countBelow at (take (length s) all) → r ≡ placeIn k (byRows s)
   counted-place all e f g = g ∙ rw (e, f) (place-is (o .all) one-mem)
@@ -184,10 +184,10 @@ module _ {k : ℕ} {s : List ℕ} (o : OneOf k s) where
   place-few = omega (arith, place-in k (into-rows (o .all) one-mem) .0, length-rows (o .all), few (o .all))
 
 -- and the sheet at a place
-module _ {n : ℕ} {s : List ℕ} (h : Numbered n s) (all : List ℕ) (e : take (length s) all ≡ map readingOrder s) where
+module _ {n : ℕ} {s : List ℕ} (h : HasNumber n s) (all : List ℕ) (e : take (length s) all ≡ map readingOrder s) where
   pub reaches : Reaches (take (length s) all) n (rows 7 * columns 7)
   reaches =
-      let low : (k : ℕ) → List·Memᴰ k s → (readingOrder k <? rows 7 * columns 7) ≡ true = λ k m. lt-ltb (readingOrder k) (rows 7 * columns 7) (order-in (detail-in (h .all) m)) in
+      let low : (k : ℕ) → List·Memᴰ k s → (readingOrder k <? rows 7 * columns 7) ≡ true = λ k m. lt-ltb (readingOrder k) (rows 7 * columns 7) (order-in (member-scale (h .all) m)) in
       let c : countBelow (rows 7 * columns 7) (map readingOrder s) ≡ length s = count-map (λ x. x <? rows 7 * columns 7) readingOrder s ∙ count-all (λ k. readingOrder k <? rows 7 * columns 7) s low in
       record { few = rw e (omega (arith, length-map s readingOrder, few (h .all))); one = h .one; enough = rw e (omega (arith, c, h .last)) }
 

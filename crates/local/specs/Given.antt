@@ -28,7 +28,7 @@ pub record OneOf (k : ℕ) (sheets : List ℕ) : Type 0 where
   pub all : Municipal sheets
   pub one : isIn sheets k ≡ true
 
-pub record Numbered (n : ℕ) (sheets : List ℕ) : Type 0 where
+pub record HasNumber (n : ℕ) (sheets : List ℕ) : Type 0 where
   pub all : Municipal sheets
   pub one : 1 ≤ n
   pub last : n ≤ length sheets
@@ -37,7 +37,7 @@ pub record Numbered (n : ℕ) (sheets : List ℕ) : Type 0 where
 abbrev pub countBelow : ℕ → List ℕ → ℕ
 countBelow bound l = length (keep (λ x. x <? bound) l)
 
--- at most 400 numbers, of which so many as a number from 1 are below a bound
+-- at most 400 numbers, at least n of them below a bound, n from 1
 pub record Reaches (l : List ℕ) (n bound : ℕ) : Type 0 where
   pub few : length l ≤ 400
   pub one : 1 ≤ n

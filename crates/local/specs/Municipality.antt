@@ -7,9 +7,9 @@ use Rattle.rising.specs.Rising.{risingFrom}
 use Rattle.division.specs.Words.{_=?_, between}
 use Rattle.division.specs.Sheet.{isSheet, scaleOf}
 
--- "with 3, 23 (a sheet of another scale)": what is wrong with a number of the list, if anything
-abbrev pub detail : ℕ → Paper Unit
-detail sheet = do
+-- "with 3, 23 (a sheet of another scale)": what is wrong with a number of the list, if it is not that of a 1:2 000 sheet
+abbrev pub of2000 : ℕ → Paper Unit
+of2000 sheet = do
   refuse 3 unless isSheet sheet
   refuse 23 unless scaleOf sheet =? 7
 
@@ -18,4 +18,4 @@ detail sheet = do
 unfoldable pub municipality : List ℕ → Paper Unit
 municipality sheets = do
   refuse 23 unless between 1 400 (length sheets)
-  risingFrom detail 0 sheets
+  risingFrom of2000 0 sheets

@@ -29,6 +29,7 @@ part above scale number = do
   k ← above
   child k scale number
 
+-- the sheet that local numbers stand for
 unfoldable pub standsFor : List ℕ → Local → Paper ℕ
 standsFor sheets (One n) = sheetNumbered sheets n
 standsFor sheets (Two n a) = part (sheetNumbered sheets n) 8 a
@@ -42,7 +43,7 @@ localToSheet sheets local = do
 
 -- ---- sheet to local numbers
 
--- "A sheet outside it .. gets 6"
+-- "numbered from 1 to n by rows"; "A sheet outside it .. gets 6"
 unfoldable pub numberOf : List ℕ → ℕ → Paper ℕ
 numberOf sheets k = do
   refuse 6 unless isIn sheets k
@@ -52,33 +53,34 @@ numberOf sheets k = do
 abbrev pub partNumber : ℕ → ℕ
 partNumber k = numberIn (side (scaleOf k)) (placeOf k)
 
--- of a 1:2 000, of a 1:1 000 and of a 1:500 sheet
-unfoldable pub one : List ℕ → ℕ → Paper Local
-one sheets k = do
+-- the local numbers of a 1:2 000 sheet; of a 1:1 000 sheet, which "adds its number in that sheet"; of a 1:500 sheet, which adds "one more"
+unfoldable pub oneNumber : List ℕ → ℕ → Paper Local
+oneNumber sheets k = do
   n ← numberOf sheets k
   answer (One n)
 
-unfoldable pub two : List ℕ → ℕ → Paper Local
-two sheets k = do
+unfoldable pub twoNumbers : List ℕ → ℕ → Paper Local
+twoNumbers sheets k = do
   up ← parent k
   n ← numberOf sheets up
   answer (Two n (partNumber k))
 
-unfoldable pub three : List ℕ → ℕ → Paper Local
-three sheets k = do
+unfoldable pub threeNumbers : List ℕ → ℕ → Paper Local
+threeNumbers sheets k = do
   up ← parent k
   top ← parent up
   n ← numberOf sheets top
   answer (Three n (partNumber up) (partNumber k))
 
--- "at scales 7, 8 and 9"
+-- "then 3 and 6 for what is asked": local numbers are had "at scales 7, 8 and 9", and a sheet of another is none of the municipality
 unfoldable pub numbersOf : List ℕ → ℕ → Paper Local
 numbersOf sheets k = do
   let s = scaleOf k
   refuse 3 unless isSheet k
   refuse 6 unless 7 ≤? s
-  cond (s =? 7) (one sheets k) (cond (s =? 8) (two sheets k) (three sheets k))
+  cond (s =? 7) (oneNumber sheets k) (cond (s =? 8) (twoNumbers sheets k) (threeNumbers sheets k))
 
+-- the list first, as above
 unfoldable pub sheetToLocal : List ℕ → ℕ → Paper Local
 sheetToLocal sheets k = do
   municipality sheets

@@ -6,7 +6,7 @@ use refusal::Refusal;
 ghost use mathlib.Core.Path.{_≡_};
 ghost use Rattle.local.specs.Numbers.{fromThree, asThree};
 
-pub mod municipality;
+mod municipality;
 pub mod numbers;
 mod rows;
 
@@ -17,6 +17,7 @@ pub enum Local {
     Three(u32, u32, u32),
 }
 
+// The local numbers by which a sheet is known.
 pub enum Known {
     By(Local),
     Refused(Refusal),
@@ -30,7 +31,8 @@ pub struct Triple {
 }
 
 impl Local {
-    // Three numbers that are nobody's, as one without the number between them, become local numbers that no sheet has.
+    // Of any three numbers, 0 for an absent one. Three that no sheet can have, as a third without a second, become local numbers that none
+    // has.
     pub fn of(n: u32, a: u32, b: u32) -> Local
         ensures { λ r. ⌜ r ≡ fromThree n a b ⌝ }
     {

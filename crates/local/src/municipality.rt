@@ -5,18 +5,18 @@ use refusal::Refusal;
 ghost use mathlib.Core.Path.{_≡_};
 ghost use Rattle.refusal.specs.Numbers.{isIn};
 ghost use Rattle.rising.specs.Rising.{risingFrom};
-ghost use Rattle.local.specs.Municipality.{detail, municipality};
+ghost use Rattle.local.specs.Municipality.{of2000, municipality};
 ghost use Rattle.local.specs.Answers.{judgedPaper};
 
 // Whether a list is a municipality.
-pub enum Judged {
+pub(crate) enum Judged {
     Fine,
     Refused(Refusal),
 }
 
 // The refusal of the first faulty place, if there is one.
 fn places(sheets: &[u32]) -> Judged
-    ensures { λ r. ⌜ judgedPaper r ≡ risingFrom detail 0 (now (sheets .entry)) ⌝ }
+    ensures { λ r. ⌜ judgedPaper r ≡ risingFrom of2000 0 (now (sheets .entry)) ⌝ }
 {
     let first = Scale(7).first();
     let last = Scale(7).last();

@@ -16,7 +16,7 @@ ghost use mathlib.Core.Path.{_≡_};
 ghost use Rattle.refusal.specs.Paper.{answer};
 ghost use Rattle.division.specs.Answers.{sheetPaper};
 ghost use Rattle.relations.specs.Relations.{parent};
-ghost use Rattle.local.specs.Numbers.{sheetNumbered, partNumber, part, standsFor, localToSheet, one, two, three, numbersOf, sheetToLocal};
+ghost use Rattle.local.specs.Numbers.{sheetNumbered, partNumber, part, standsFor, localToSheet, oneNumber, twoNumbers, threeNumbers, numbersOf, sheetToLocal};
 ghost use Rattle.local.specs.Answers.{knownPaper};
 ghost use Rattle.local.specs.Given.{OfScale, Part, Municipal};
 
@@ -89,9 +89,9 @@ fn part_number(sheet: u32) -> u32
 }
 
 // The local numbers of a 1:2 000, of a 1:1 000 and of a 1:500 sheet.
-fn one(sheets: &[u32], sheet: u32) -> Known
+fn one_number(sheets: &[u32], sheet: u32) -> Known
     requires { ⌜ Municipal (now sheets) ⌝ }
-    ensures { λ r. ⌜ knownPaper r ≡ one (now (sheets .entry)) sheet ⌝ }
+    ensures { λ r. ⌜ knownPaper r ≡ oneNumber (now (sheets .entry)) sheet ⌝ }
 {
     if !has(sheets, sheet) {
         return Known::Refused(Refusal::NoSuch);
@@ -99,10 +99,10 @@ fn one(sheets: &[u32], sheet: u32) -> Known
     Known::By(Local::One(number_of(sheets, sheet)))
 }
 
-fn two(sheets: &[u32], sheet: u32) -> Known
+fn two_numbers(sheets: &[u32], sheet: u32) -> Known
     requires { ⌜ Municipal (now sheets) ⌝ }
     requires { ⌜ OfScale 8 sheet ⌝ }
-    ensures { λ r. ⌜ knownPaper r ≡ two (now (sheets .entry)) sheet ⌝ }
+    ensures { λ r. ⌜ knownPaper r ≡ twoNumbers (now (sheets .entry)) sheet ⌝ }
 {
     let top = up(sheet);
     if !has(sheets, top) {
@@ -111,10 +111,10 @@ fn two(sheets: &[u32], sheet: u32) -> Known
     Known::By(Local::Two(number_of(sheets, top), part_number(sheet)))
 }
 
-fn three(sheets: &[u32], sheet: u32) -> Known
+fn three_numbers(sheets: &[u32], sheet: u32) -> Known
     requires { ⌜ Municipal (now sheets) ⌝ }
     requires { ⌜ OfScale 9 sheet ⌝ }
-    ensures { λ r. ⌜ knownPaper r ≡ three (now (sheets .entry)) sheet ⌝ }
+    ensures { λ r. ⌜ knownPaper r ≡ threeNumbers (now (sheets .entry)) sheet ⌝ }
 {
     let above = up(sheet);
     let top = up(above);
@@ -137,9 +137,9 @@ fn numbers_of(sheets: &[u32], sheet: u32) -> Known
     }
     let s = Scale::of(sheet).0;
     match s {
-        7 => one(sheets, sheet),
-        8 => two(sheets, sheet),
-        9 => three(sheets, sheet),
+        7 => one_number(sheets, sheet),
+        8 => two_numbers(sheets, sheet),
+        9 => three_numbers(sheets, sheet),
         _ => Known::Refused(Refusal::NoSuch),
     }
 }

@@ -12,7 +12,7 @@ ghost use Rattle.refusal.specs.Paper.{answer};
 ghost use Rattle.division.specs.Sheet.{readingOrder};
 ghost use Rattle.division.specs.Answers.{sheetPaper};
 ghost use Rattle.local.specs.Rows.{byRows, placeIn};
-ghost use Rattle.local.specs.Given.{OfScale, Municipal, OneOf, Numbered, Reaches, IsNth, countBelow};
+ghost use Rattle.local.specs.Given.{OfScale, Municipal, OneOf, HasNumber, Reaches, IsNth, countBelow};
 
 // The place of a 1:2 000 sheet on the whole grid, counted by rows from the north, each row from the west. `across` is how many 1:50 000
 // sheets lie in a row, and each of them has `side` rows of as many parts.
@@ -92,7 +92,7 @@ pub(crate) fn number_of(sheets: &[u32], sheet: u32) -> u32
 
 // The sheet of a municipality that has a number.
 pub(crate) fn sheet_numbered(sheets: &[u32], number: u32) -> Found
-    requires { ⌜ Numbered number (now sheets) ⌝ }
+    requires { ⌜ HasNumber number (now sheets) ⌝ }
     ensures { λ r. ⌜ sheetPaper r ≡ answer (getD (byRows (now (sheets .entry))) (number - 1) 0) ⌝ }
 {
     let all = orders(sheets);

@@ -1,5 +1,5 @@
 -- Strictly rising lists of numbers under a judge, who says of a number what is wrong with it, if anything. Document 01, "Shelf list" and
--- "Numbers of refusal".
+-- "Numbers of refusal"; document 02, f).
 use Prim.Native.Nat.{ℕ, zero, suc, _+_, _≤_, _<_}
 use mathlib.Core.Path.{_≡_}
 use mathlib.Core.List.{List, [], _∷_}

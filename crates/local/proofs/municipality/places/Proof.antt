@@ -11,7 +11,7 @@ use Rattle.refusal.proofs.PaperLaws.{fails, holds}
 use Rattle.rising.proofs.RisingLaws.{rising-done}
 use Rattle.division.specs.Words.{between}
 use Rattle.division.specs.Sheet.{isSheet}
-use Rattle.local.specs.Municipality.{detail}
+use Rattle.local.specs.Municipality.{of2000}
 use Rattle.local.specs.Given.{OfScale}
 use Rattle.local.proofs.MunicipalityLaws.{seven, no-sheet, other-scale, in-range, Judging, judged-here, falls, goes-on}
 use Rattle.local.proofs.municipality.places.Statement.{statement}
@@ -28,8 +28,8 @@ is-one : (c : tie.Else1 Inv-loop μ-loop) → isSheet (getD (c .before .before .
 is-one c = holds (c .before .is-sheet .ensures) (c .if1 .left)
 
 -- so where its number lies in the scale's range it is of the scale
-detail-at : (c : tie.Else2 Inv-loop μ-loop) → OfScale 7 (getD (c .before .before .before .before .before .before .before .before .before .args .sheets .now) (c .before .before .before .before .before .loop .i) 0)
-detail-at c =
+scale-at : (c : tie.Else2 Inv-loop μ-loop) → OfScale 7 (getD (c .before .before .before .before .before .before .before .before .before .args .sheets .now) (c .before .before .before .before .before .loop .i) 0)
+scale-at c =
     let l = c .before .before .before .before .before in
     let k = getD (l .before .before .before .before .args .sheets .now) (l .loop .i) 0 in
     let t : between (l .before .before .first .result) (l .before .last .result) k ≡ true = not-false _ (c .if2 .left) in
@@ -73,12 +73,12 @@ returns-3 : tie.Need-returns-3 Inv-loop μ-loop
 returns-3 c =
     let n = c .before .before .before .before .before in
     let l = n .before in
-    sym (l .loop .inv .rest ∙ falls (l .before .before .before .before .args .sheets .now) (l .loop .i) (l .loop .least) (n .loop-test .taken) (detail-at (c .before)) (c .if3 .taken))
+    sym (l .loop .inv .rest ∙ falls (l .before .before .before .before .args .sheets .now) (l .loop .i) (l .loop .least) (n .loop-test .taken) (scale-at (c .before)) (c .if3 .taken))
 
 add-least : tie.Need-add-least Inv-loop μ-loop
 add-least c =
     let l = c .before .before .before .before .before .before in
-    omega (arith, leb-true (getD (l .before .before .before .before .args .sheets .now) (l .loop .i) 0) 7_953_173 (detail-at (c .before) .sheet))
+    omega (arith, leb-true (getD (l .before .before .before .before .args .sheets .now) (l .loop .i) 0) 7_953_173 (scale-at (c .before) .sheet))
 
 add-i : tie.Need-add-i Inv-loop μ-loop
 add-i c = search needs
@@ -90,12 +90,12 @@ loop-again : tie.Need-loop-again Inv-loop μ-loop
 loop-again c =
     let n = c .before .before .before .before .before in
     let l = n .before in
-    record { upto = omega arith; rest = l .loop .inv .rest ∙ goes-on (l .before .before .before .before .args .sheets .now) (l .loop .i) (l .loop .least) (n .loop-test .taken) (detail-at (c .before)) (c .if3 .left) }
+    record { upto = omega arith; rest = l .loop .inv .rest ∙ goes-on (l .before .before .before .before .args .sheets .now) (l .loop .i) (l .loop .least) (n .loop-test .taken) (scale-at (c .before)) (c .if3 .left) }
 
 returns-4 : tie.Need-returns-4 Inv-loop μ-loop
 returns-4 c =
     let l = c .before in
-    sym (l .loop .inv .rest ∙ rising-done detail (l .before .before .before .before .args .sheets .now) (l .loop .i) (l .loop .least) (c .loop-test .left))
+    sym (l .loop .inv .rest ∙ rising-done of2000 (l .before .before .before .before .args .sheets .now) (l .loop .i) (l .loop .least) (c .loop-test .left))
 
 pub places-spec : {M : Type 1} → statement M
 places-spec =

@@ -22,16 +22,16 @@ returns c =
 of-requires : tie.Need-of-requires
 of-requires c κs = search needs
 
-one-requires : tie.Need-one-requires
-one-requires c κs = search needs
+one-number-requires : tie.Need-one-number-requires
+one-number-requires c κs = search needs
 
-two-requires : tie.Need-two-requires
-two-requires c κs =
+two-numbers-requires : tie.Need-two-numbers-requires
+two-numbers-requires c κs =
     let o = c .before in
     (o .before .before .before .before .pre, record { sheet = sheet o; scale = sym (o .of .ensures) ∙ c .match .keys2 })
 
-three-requires : tie.Need-three-requires
-three-requires c κs =
+three-numbers-requires : tie.Need-three-numbers-requires
+three-numbers-requires c κs =
     let o = c .before in
     (o .before .before .before .before .pre, record { sheet = sheet o; scale = sym (o .of .ensures) ∙ c .match .keys3 })
 
@@ -39,19 +39,19 @@ returns-2 : tie.Need-returns-2
 returns-2 c =
     let o = c .before .before in
     let a = o .before .before .before .before .args in
-    c .one .ensures ∙ sym (numbers-at-7 (a .sheets .now) (a .sheet) (sheet o) (sym (o .of .ensures) ∙ c .before .match .keys1))
+    c .one-number .ensures ∙ sym (numbers-at-7 (a .sheets .now) (a .sheet) (sheet o) (sym (o .of .ensures) ∙ c .before .match .keys1))
 
 returns-3 : tie.Need-returns-3
 returns-3 c =
     let o = c .before .before in
     let a = o .before .before .before .before .args in
-    c .two .ensures ∙ sym (numbers-at-8 (a .sheets .now) (a .sheet) (sheet o) (sym (o .of .ensures) ∙ c .before .match .keys2))
+    c .two-numbers .ensures ∙ sym (numbers-at-8 (a .sheets .now) (a .sheet) (sheet o) (sym (o .of .ensures) ∙ c .before .match .keys2))
 
 returns-4 : tie.Need-returns-4
 returns-4 c =
     let o = c .before .before in
     let a = o .before .before .before .before .args in
-    c .three .ensures ∙ sym (numbers-at-9 (a .sheets .now) (a .sheet) (sheet o) (sym (o .of .ensures) ∙ c .before .match .keys3))
+    c .three-numbers .ensures ∙ sym (numbers-at-9 (a .sheets .now) (a .sheet) (sheet o) (sym (o .of .ensures) ∙ c .before .match .keys3))
 
 returns-5 : tie.Need-returns-5
 returns-5 c =
@@ -67,9 +67,9 @@ numbers-of-spec =
     is-sheet-requires
     returns
     of-requires
-    one-requires
-    two-requires
-    three-requires
+    one-number-requires
+    two-numbers-requires
+    three-numbers-requires
     returns-2
     returns-3
     returns-4

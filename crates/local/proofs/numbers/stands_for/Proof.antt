@@ -4,6 +4,7 @@ use mathlib.Core.List.{List}
 use Prim.Native.Nat.{ℕ}
 use borrow.Author.Needs.{needs}
 use Rattle.refusal.specs.Paper.{Paper}
+use Rattle.division.specs.Answers.{sheetPaper}
 use Rattle.local.specs.declared.Local.{Local}
 use Rattle.local.specs.Numbers.{part, standsFor}
 use Rattle.local.proofs.numbers.stands_for.Statement.{statement}
@@ -49,16 +50,21 @@ returns-2 : tie.Need-returns-2
 unfolding standsFor
 returns-2 c =
     let l = c .before .before .before in
+    let n = c .before .numbered2 in
     let a = l .local2 .given .0 .1 .0 in
-    c .part .ensures ∙ ap (λ (p : Paper ℕ). part p 8 a) (c .before .numbered2 .ensures) ∙ told (l .before .before .before .args .sheets .now) (l .local2 .given .1)
+    let second : sheetPaper (c .part .result) ≡ part (sheetPaper (n .result)) 8 a = c .part .ensures in
+    second ∙ ap (λ (p : Paper ℕ). part p 8 a) (n .ensures) ∙ told (l .before .before .before .args .sheets .now) (l .local2 .given .1)
 
 returns-3 : tie.Need-returns-3
 unfolding standsFor
 returns-3 c =
     let l = c .before .before .before .before in
+    let n = c .before .before .numbered3 in
     let a = l .local3 .given .0 .1 .0 in
     let b = l .local3 .given .0 .1 .1 .0 in
-    c .part3 .ensures ∙ ap (λ (p : Paper ℕ). part p 9 b) (c .before .part2 .ensures ∙ ap (λ (p : Paper ℕ). part p 8 a) (c .before .before .numbered3 .ensures)) ∙ told (l .before .before .before .args .sheets .now) (l .local3 .given .1)
+    let second : sheetPaper (c .before .part2 .result) ≡ part (sheetPaper (n .result)) 8 a = c .before .part2 .ensures in
+    let third : sheetPaper (c .part3 .result) ≡ part (sheetPaper (c .before .part2 .result)) 9 b = c .part3 .ensures in
+    third ∙ ap (λ (p : Paper ℕ). part p 9 b) (second ∙ ap (λ (p : Paper ℕ). part p 8 a) (n .ensures)) ∙ told (l .before .before .before .args .sheets .now) (l .local3 .given .1)
 
 pub stands-for-spec : {M : Type 1} → statement M
 stands-for-spec =

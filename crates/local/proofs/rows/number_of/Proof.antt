@@ -4,7 +4,7 @@ use native.Mathlib.Omega.{arith}
 use borrow.Author.Needs.{needs}
 use Rattle.local.specs.Rows.{byRows, placeIn}
 use Rattle.local.proofs.MunicipalityLaws.{few}
-use Rattle.local.proofs.RowLaws.{orders-fit, one-detail, counted-place, place-few}
+use Rattle.local.proofs.RowLaws.{orders-fit, one-scale, counted-place, place-few}
 use Rattle.local.proofs.rows.number_of.Statement.{statement}
 use Rattle.local.proofs.rows.number_of.Tie as tie
 
@@ -21,7 +21,7 @@ slice-aggregate-below : tie.Need-slice-aggregate-below
 slice-aggregate-below c = orders-fit (c .before .before .before .args .sheets .now) (c .before .orders .result) (c .before .orders .ensures) .1
 
 order-requires : tie.Need-order-requires
-order-requires c κs = one-detail (c .before .before .before .pre)
+order-requires c κs = one-scale (c .before .before .before .pre)
 
 below-requires : tie.Need-below-requires
 below-requires c κs =

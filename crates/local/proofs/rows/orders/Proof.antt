@@ -7,7 +7,7 @@ use borrow.Author.Needs.{needs}
 use lib.ListN.{length, take, length-set}
 use Rattle.division.specs.Sheet.{readingOrder}
 use Rattle.local.proofs.CountLaws.{mem-at}
-use Rattle.local.proofs.MunicipalityLaws.{few, detail-in}
+use Rattle.local.proofs.MunicipalityLaws.{few, member-scale}
 use Rattle.local.proofs.RowLaws.{put-order, all-orders}
 use Rattle.local.proofs.rows.orders.Statement.{statement}
 use Rattle.local.proofs.rows.orders.Tie as tie
@@ -31,7 +31,7 @@ order-requires : tie.Need-order-requires Inv-loop μ-loop
 order-requires c κs =
     let l = c .before .before in
     let s = l .before .before .args .sheets .now in
-    detail-in (l .before .before .pre) (mem-at s (l .loop .i) (c .before .loop-test .taken))
+    member-scale (l .before .before .pre) (mem-at s (l .loop .i) (c .before .loop-test .taken))
 
 mul-all : tie.Need-mul-all Inv-loop μ-loop
 mul-all c = search needs

@@ -6,8 +6,8 @@ use Rattle.refusal.specs.Paper.{answer}
 use Rattle.refusal.proofs.PaperLaws.{fails, holds}
 use Rattle.local.specs.declared.Local.the-variants.{One}
 use Rattle.local.proofs.NumberLaws.{one-outside, one-is}
-use Rattle.local.proofs.numbers.one.Statement.{statement}
-use Rattle.local.proofs.numbers.one.Tie as tie
+use Rattle.local.proofs.numbers.one_number.Statement.{statement}
+use Rattle.local.proofs.numbers.one_number.Tie as tie
 
 has-requires : tie.Need-has-requires
 has-requires c κs = search needs
@@ -26,5 +26,5 @@ returns-2 c =
     let a = h .before .before .args in
     ap (λ (n : ℕ). answer (One n)) (c .number-of .ensures) ∙ sym (one-is (a .sheets .now) (a .sheet) (holds (h .has .ensures) (c .before .if1 .left)))
 
-pub one-spec : {M : Type 1} → statement M
-one-spec = tie.close (tie.spec has-requires returns number-of-requires returns-2)
+pub one-number-spec : {M : Type 1} → statement M
+one-number-spec = tie.close (tie.spec has-requires returns number-of-requires returns-2)

@@ -7,8 +7,8 @@ use Rattle.refusal.specs.Paper.{answer}
 use Rattle.refusal.proofs.PaperLaws.{fails, holds}
 use Rattle.local.specs.declared.Local.the-variants.{Two}
 use Rattle.local.proofs.NumberLaws.{is-part, two-outside, two-is}
-use Rattle.local.proofs.numbers.two.Statement.{statement}
-use Rattle.local.proofs.numbers.two.Tie as tie
+use Rattle.local.proofs.numbers.two_numbers.Statement.{statement}
+use Rattle.local.proofs.numbers.two_numbers.Tie as tie
 
 up-requires : tie.Need-up-requires
 up-requires c κs = is-part 8 (omega arith) (c .before .pre .1)
@@ -36,6 +36,6 @@ returns-2 c =
     ap₂ (λ (n : ℕ) (b : ℕ). answer (Two n b)) (c .before .number-of .ensures) (c .part-number .ensures)
     ∙ sym (two-is (a .sheets .now) (a .sheet) (u .up .ensures) (holds (h .has .ensures) (c .before .before .if1 .left)))
 
-pub two-spec : {M : Type 1} → statement M
-two-spec =
+pub two-numbers-spec : {M : Type 1} → statement M
+two-numbers-spec =
     tie.close (tie.spec up-requires has-requires returns number-of-requires part-number-requires returns-2)

@@ -4,8 +4,8 @@ use native.Mathlib.Omega.{arith}
 use borrow.Author.Needs.{needs}
 use Rattle.refusal.proofs.PaperLaws.{fails, holds}
 use Rattle.local.proofs.NumberLaws.{is-part, parent-part, three-outside, three-is}
-use Rattle.local.proofs.numbers.three.Statement.{statement}
-use Rattle.local.proofs.numbers.three.Tie as tie
+use Rattle.local.proofs.numbers.three_numbers.Statement.{statement}
+use Rattle.local.proofs.numbers.three_numbers.Tie as tie
 
 up-requires : tie.Need-up-requires
 up-requires c κs = is-part 9 (omega arith) (c .before .pre .1)
@@ -44,8 +44,8 @@ returns-2 c =
     rw (n .number-of .ensures, c .before .part-number .ensures, c .part-number2 .ensures)
     (sym (three-is (a .sheets .now) (a .sheet) (v .up .ensures) (u .up2 .ensures) (holds (h .has .ensures) (n .before .if1 .left))))
 
-pub three-spec : {M : Type 1} → statement M
-three-spec =
+pub three-numbers-spec : {M : Type 1} → statement M
+three-numbers-spec =
     tie.close
     (tie.spec
     up-requires
