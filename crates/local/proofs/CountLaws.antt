@@ -1,6 +1,6 @@
 -- Lists of numbers: what is in one, where it stands, and how many pass a test; two lists of the same numbers have as many. Assumes nothing.
 use mathlib.Core.Path.{_≡_, refl, sym, ap, _∙_}
-use mathlib.Core.Bool.{Bool, true, false, cond, _||_}
+use mathlib.Core.Bool.{Bool, true, false, cond, _||_, or-assoc, or-false}
 use mathlib.Core.List.{List, [], _∷_, map, List·Memᴰ, List·Memᴰ·head, List·Memᴰ·tail}
 use Prim.Native.Nat.{ℕ, zero, suc, _+_, _≤_, _<_}
 use native.Mathlib.Nat.{zero-add, le-of-suc-le-suc}
@@ -11,6 +11,7 @@ use mir.Val.{boolByte}
 use Rattle.refusal.specs.Numbers.{isIn}
 use Rattle.rising.proofs.RisingLaws.{from-here}
 use Rattle.division.specs.Words.{_<?_, _=?_, keep}
+use Rattle.division.proofs.NumberLaws.{at-most-one}
 use Rattle.local.specs.Rows.{placeIn}
 use Rattle.local.specs.Given.{countBelow, Reaches}
 
@@ -42,13 +43,23 @@ map-at f [] i h = absurd (omega arith)
 map-at f (x ∷ l) zero h = refl
 map-at f (x ∷ l) (suc i) h = map-at f l i (le-of-suc-le-suc h)
 
--- place by place
-module _ (l : List ℕ) (i k : ℕ) where
-  pub in-here : i < length l → isIn (drop i l) k ≡ (k =? getD l i 0 || isIn (drop (i + 1) l) k)
-  in-here h = rw (from-here l i h)
+-- place by place: whether it is one of those before i
+pub record Seeking (l : List ℕ) (k : ℕ) (found : Bool) (i : ℕ) : Type 0 where
+  pub upto : i ≤ length l
+  pub rest : (found || isIn (drop i l) k) ≡ isIn l k
 
-  pub in-no-more : length l ≤ i → isIn (drop i l) k ≡ false
-  in-no-more h = rw (drop-of-length-le l h)
+pub seeking-first : (l : List ℕ) (k : ℕ) → Seeking l k false 0
+seeking-first l k = record { upto = omega arith; rest = refl }
+
+pub seeking-next : {l : List ℕ} {k : ℕ} (found : Bool) {i : ℕ} → Seeking l k found i → i < length l → Seeking l k (found || k =? getD l i 0) (i + 1)
+seeking-next {l} {k} found {i} s h =
+    let here : isIn (drop i l) k ≡ (k =? getD l i 0 || isIn (drop (i + 1) l) k) = rw (from-here l i h) in
+    record { upto = omega arith; rest = or-assoc found (k =? getD l i 0) (isIn (drop (i + 1) l) k) ∙ ap (λ (b : Bool). found || b) (sym here) ∙ s .rest }
+
+pub seeking-done : {l : List ℕ} {k : ℕ} (found : Bool) {i : ℕ} → Seeking l k found i → length l ≤ i → found ≡ isIn l k
+seeking-done {l} {k} found {i} s h =
+    let none : isIn (drop i l) k ≡ false = rw (drop-of-length-le l h) in
+    sym (or-false found) ∙ ap (λ (b : Bool). found || b) (sym none) ∙ s .rest
 
 -- x is none of a list; no two of a list are the same
 abbrev pub NoneOf : ℕ → List ℕ → Type 0
@@ -101,13 +112,23 @@ module _ (p : ℕ → Bool) where
   count-all [] h = refl
   count-all (x ∷ l) h = rw (h x (List·Memᴰ·head refl)) (ap suc (count-all l (λ y m. h y (List·Memᴰ·tail m))))
 
-  -- place by place
-  pub count-here : (l : List ℕ) (i : ℕ) → i < length l → count p (drop i l) ≡ boolByte (p (getD l i 0)) + count p (drop (i + 1) l)
-  count-here l i h = ap (count p) (from-here l i h) ∙ count-cons (getD l i 0) (drop (i + 1) l)
+  -- place by place: so many of those before i pass
+  pub record Counting (l : List ℕ) (n i : ℕ) : Type 0 where
+    pub upto : i ≤ length l
+    pub few : n ≤ i
+    pub rest : n + count p (drop i l) ≡ count p l
 
-  pub count-no-more : (l : List ℕ) (i : ℕ) → length l ≤ i → count p (drop i l) ≡ 0
+  pub counting-first : (l : List ℕ) → Counting l 0 0
+  counting-first l = record { upto = omega arith; few = omega arith; rest = zero-add (count p l) }
+
+  pub counting-next : {l : List ℕ} {n i : ℕ} → Counting l n i → i < length l → Counting l (n + boolByte (p (getD l i 0))) (i + 1)
+  counting-next {l} {n} {i} c h =
+      let here : count p (drop i l) ≡ boolByte (p (getD l i 0)) + count p (drop (i + 1) l) = ap (count p) (from-here l i h) ∙ count-cons (getD l i 0) (drop (i + 1) l) in
+      record { upto = omega arith; few = omega (arith, c .few, at-most-one (p (getD l i 0))); rest = omega (arith, c .rest, here) }
+
+  pub counting-done : {l : List ℕ} {n i : ℕ} → Counting l n i → length l ≤ i → n ≡ count p l
   unfolding keep
-  count-no-more l i h = rw (drop-of-length-le l h)
+  counting-done {l} {n} {i} c h = let none : count p (drop i l) ≡ 0 = rw (drop-of-length-le l h) in omega (arith, c .rest, none)
 
   pub count-map : (f : ℕ → ℕ) (l : List ℕ) → count p (map f l) ≡ count (λ x. p (f x)) l
   unfolding keep

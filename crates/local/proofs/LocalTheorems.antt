@@ -27,7 +27,7 @@ use Rattle.local.specs.Rows.{byRows, placeIn}
 use Rattle.local.specs.Numbers.{sheetNumbered, part, standsFor, localToSheet, numberOf, partNumber, oneNumber, twoNumbers, threeNumbers, numbersOf, sheetToLocal, fromThree, asThree}
 use Rattle.local.specs.Given.{OfScale, Part, Municipal}
 use Rattle.local.specs.Theorems.{SheetOf, listed, quarter, sixteenth, Before}
-use Rattle.local.proofs.CountLaws.{in-mem, mem-in, mem-at, place-in, at-place, count, count-map}
+use Rattle.local.proofs.CountLaws.{in-mem, mem-in, mem-at, place-in, at-place, count}
 use Rattle.local.proofs.OrderLaws.{rises-apart, places-rise}
 use Rattle.local.proofs.MunicipalityLaws.{member-scale}
 use Rattle.local.proofs.RowLaws.{placed-7, order-is, columns-are, row-first, rows-rise, into-rows, from-rows, length-rows, place-is}
@@ -265,7 +265,7 @@ unfolding sheetToLocal oneNumber
 number-counts s k e h =
     let m : Municipal s = record { is = e } in
     let d = member-scale m (in-mem k s h) in
-    let c : placeIn k (byRows s) ≡ count (λ j. readingOrder j <? readingOrder k) s = sym (place-is m (in-mem k s h)) ∙ count-map (λ x. x <? readingOrder k) readingOrder s in
+    let c : placeIn k (byRows s) ≡ count (λ j. readingOrder j <? readingOrder k) s = sym (place-is m (in-mem k s h)) in
     rw e (numbers-at-7 s k (d .sheet) (d .scale) ∙ rw (numbered s k h) (ap (λ (n : ℕ). answer (One (1 + n))) c))
 
 before : {j k : ℕ} → OfScale 7 j → OfScale 7 k → (readingOrder j < readingOrder k) ↔ Before j k

@@ -29,7 +29,7 @@ use Rattle.division.proofs.MemberLaws.{keep-has, has-keep, has-from, has-block}
 use Rattle.division.proofs.CoverTheorems.{in-order}
 use Rattle.local.specs.Rows.{byRows, placeIn}
 use Rattle.local.specs.Given.{OfScale, Municipal, OneOf, HasNumber, countBelow, Reaches, IsNth}
-use Rattle.local.proofs.CountLaws.{in-mem, mem-in, mem-at, map-at, place-in, count, count-all, count-map, pick-all}
+use Rattle.local.proofs.CountLaws.{in-mem, mem-in, mem-at, map-at, count, count-all, count-map, pick-all}
 use Rattle.local.proofs.OrderLaws.{RisesBy, rises-apart, keep-rises, smaller, rank, nth-key}
 use Rattle.local.proofs.MunicipalityLaws.{seven, few, member-scale, distinct}
 
@@ -151,12 +151,13 @@ module _ {s : List ℕ} (m : Municipal s) where
   pub length-rows : length (byRows s) ≡ length s
   length-rows = sym (count-all (λ k. true) (byRows s) (λ y h. refl)) ∙ count-rows (λ k. true) ∙ count-all (λ k. true) s (λ y h. refl)
 
-  -- of the orders, as many are below a bound as sheets stand before it
+  -- so a sheet's place is how many of the list stand before it
+  pub place-is : {k : ℕ} → List·Memᴰ k s → count (λ x. readingOrder x <? readingOrder k) s ≡ placeIn k (byRows s)
+  place-is {k} h = sym (count-rows (λ x. readingOrder x <? readingOrder k)) ∙ sym (rank readingOrder k (rows-rise s) (into-rows h))
+
+  -- and of the orders, as many are below a bound as sheets stand before it
   below-is : (bound : ℕ) → countBelow bound (map readingOrder s) ≡ smaller readingOrder bound (byRows s)
   below-is bound = count-map (λ x. x <? bound) readingOrder s ∙ sym (count-rows (λ k. readingOrder k <? bound))
-
-  pub place-is : {k : ℕ} → List·Memᴰ k s → countBelow (readingOrder k) (map readingOrder s) ≡ placeIn k (byRows s)
-  place-is {k} h = below-is (readingOrder k) ∙ sym (rank readingOrder k (rows-rise s) (into-rows h))
 
   nth-is : (n bound v : ℕ) → 1 ≤ n → n ≤ length s → IsNth (map readingOrder s) n bound v → sheetOf 7 (areaPlace (columns 7) v) ≡ getD (byRows s) (n - 1) 0
   nth-is n bound v one last t =
@@ -177,11 +178,8 @@ module _ {k : ℕ} {s : List ℕ} (o : OneOf k s) where
   pub one-scale : OfScale 7 k
   one-scale = member-scale (o .all) one-mem
 
-  pub counted-place : (all : List ℕ) {at r : ℕ} → take (length s) all ≡ map readingOrder s → at ≡ readingOrder k → r ≡ countBelow at (take (length s) all) → r ≡ placeIn k (byRows s)
-  counted-place all e f g = g ∙ rw (e, f) (place-is (o .all) one-mem)
-
-  pub place-few : placeIn k (byRows s) < 400
-  place-few = omega (arith, place-in k (into-rows (o .all) one-mem) .0, length-rows (o .all), few (o .all))
+  pub counted-place : {at : ℕ} → at ≡ readingOrder k → count (λ x. readingOrder x <? at) s ≡ placeIn k (byRows s)
+  counted-place e = rw e (place-is (o .all) one-mem)
 
 -- and the sheet at a place
 module _ {n : ℕ} {s : List ℕ} (h : HasNumber n s) (all : List ℕ) (e : take (length s) all ≡ map readingOrder s) where

@@ -49,16 +49,15 @@ pub(crate) fn judge(sheets: &[u32]) -> Judged
     places(sheets)
 }
 
-// Whether a sheet is one of a list.
+// Whether a sheet is one of a list. The comparisons go on to the end, so that many are made at a time.
 pub(crate) fn has(sheets: &[u32], sheet: u32) -> bool
     ensures { λ r. ⌜ r ≡ isIn (now (sheets .entry)) sheet ⌝ }
 {
+    let mut found = false;
     let mut i: usize = 0;
     while i < sheets.len() {
-        if sheet == sheets[i] {
-            return true;
-        }
+        found = found | (sheet == sheets[i]);
         i += 1;
     }
-    false
+    found
 }

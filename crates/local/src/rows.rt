@@ -1,5 +1,5 @@
-// A municipality's sheets by rows. Where a sheet stands in them follows from how many stand before it on the whole grid. So the order of
-// each is worked out once, and then only orders are counted: to find the n-th, a bound is halved until one order is left.
+// A municipality's sheets by rows. Where a sheet stands in them follows from how many stand before it on the whole grid, so nothing is
+// sorted. To find the n-th, the order of each is worked out once, and then a bound is halved until one order is left.
 use division::Found;
 use division::Place;
 use division::sheet::sheet_on;
@@ -79,15 +79,20 @@ fn nth(orders: &[u32], n: u32, bound: u32) -> u32
     low
 }
 
-// The number of a municipality's sheet.
+// The number of a municipality's sheet: 1, and how many of its sheets stand before it.
 pub(crate) fn number_of(sheets: &[u32], sheet: u32) -> u32
     requires { ⌜ OneOf sheet (now sheets) ⌝ }
     ensures { λ r. ⌜ r ≡ 1 + placeIn sheet (byRows (now (sheets .entry))) ⌝ }
 {
-    let all = orders(sheets);
-    let n = sheets.len();
-    let before = below(&all[..n], order(sheet));
-    before + 1
+    let at = order(sheet);
+    let mut count: u32 = 0;
+    let mut i: usize = 0;
+    while i < sheets.len() {
+        let other = order(sheets[i]);
+        count += (other < at) as u32;
+        i += 1;
+    }
+    count + 1
 }
 
 // The sheet of a municipality that has a number.

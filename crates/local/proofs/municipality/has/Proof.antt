@@ -1,35 +1,25 @@
--- What is in the list is in what is left of it from place i on, where no place before is it. Assumes nothing.
-use mathlib.Core.Path.{_≡_, sym, _∙_}
-use Prim.Native.Nat.{_-_, _≤_}
-use native.Mathlib.Omega.{arith}
+-- The sheet is one of the list if it is one of those looked at, or of those that are left. Assumes nothing.
+use Prim.Native.Nat.{_-_}
 use borrow.Author.Needs.{needs}
-use borrow.Author.Tests.{eq-eqb, ne-eqb}
-use lib.ListN.{length, getD, drop}
-use Rattle.refusal.specs.Numbers.{isIn}
-use Rattle.local.proofs.CountLaws.{in-here, in-no-more}
+use lib.ListN.{length}
+use Rattle.local.proofs.CountLaws.{Seeking, seeking-first, seeking-next, seeking-done}
 use Rattle.local.proofs.municipality.has.Statement.{statement}
 use Rattle.local.proofs.municipality.has.Tie as tie
 
 abbrev Inv-loop : tie.InvT-loop
-Inv-loop sheets sheet i₀ i = (i ≤ length sheets) × (isIn sheets sheet ≡ isIn (drop i sheets) sheet)
+Inv-loop sheets sheet found₀ i₀ found i = Seeking sheets sheet found i
 
 abbrev μ-loop : tie.MeasureT-loop
-μ-loop sheets sheet i₀ i = length sheets - i
+μ-loop sheets sheet found₀ i₀ found i = length sheets - i
 
 loop-holds : tie.Need-loop-holds Inv-loop μ-loop
-loop-holds c = search needs
+loop-holds c = seeking-first (c .args .sheets .now) (c .args .sheet)
 
-mul-if1 : tie.Need-mul-if1 Inv-loop μ-loop
-mul-if1 c = search needs
+mul-found : tie.Need-mul-found Inv-loop μ-loop
+mul-found c = search needs
 
-shared-slice-read-if1 : tie.Need-shared-slice-read-if1 Inv-loop μ-loop
-shared-slice-read-if1 c = search needs
-
-returns : tie.Need-returns Inv-loop μ-loop
-returns c =
-    let l = c .before .before .before in
-    let a = l .before .args in
-    sym (l .loop .inv .1 ∙ in-here (a .sheets .now) (l .loop .i) (a .sheet) (c .before .before .loop-test .taken) ∙ rw (eq-eqb (a .sheet) (getD (a .sheets .now) (l .loop .i) 0) (c .if1 .taken)))
+shared-slice-read-found : tie.Need-shared-slice-read-found Inv-loop μ-loop
+shared-slice-read-found c = search needs
 
 add-i : tie.Need-add-i Inv-loop μ-loop
 add-i c = search needs
@@ -38,18 +28,21 @@ loop-less : tie.Need-loop-less Inv-loop μ-loop
 loop-less c = search needs
 
 loop-again : tie.Need-loop-again Inv-loop μ-loop
-loop-again c =
-    let l = c .before .before .before in
-    let a = l .before .args in
-    (omega arith, l .loop .inv .1 ∙ in-here (a .sheets .now) (l .loop .i) (a .sheet) (c .before .before .loop-test .taken) ∙ rw (ne-eqb (a .sheet) (getD (a .sheets .now) (l .loop .i) 0) (c .if1 .left)))
+loop-again c = let l = c .before .before in seeking-next (l .loop .found) (l .loop .inv) (c .before .loop-test .taken)
 
-returns-2 : tie.Need-returns-2 Inv-loop μ-loop
-returns-2 c =
-    let l = c .before in
-    let a = l .before .args in
-    sym (l .loop .inv .1 ∙ in-no-more (a .sheets .now) (l .loop .i) (a .sheet) (c .loop-test .left))
+returns : tie.Need-returns Inv-loop μ-loop
+returns c = seeking-done (c .before .loop .found) (c .before .loop .inv) (c .loop-test .left)
 
 pub has-spec : {M : Type 1} → statement M
 has-spec =
     tie.close
-    (tie.spec Inv-loop μ-loop loop-holds mul-if1 shared-slice-read-if1 returns add-i loop-less loop-again returns-2)
+    (tie.spec
+    Inv-loop
+    μ-loop
+    loop-holds
+    mul-found
+    shared-slice-read-found
+    add-i
+    loop-less
+    loop-again
+    returns)
