@@ -39,6 +39,11 @@ pub enum Question {
     OfficialCheck { line: Vec<u8> },
     LocalToSheet { municipality: Vec<u32>, n: u32, a: u32, b: u32 },
     SheetToLocal { municipality: Vec<u32>, sheet: u32 },
+    Holding { sheet: u32, product: u32 },
+    HoldingParts { holding: u32 },
+    HoldingsLength { holdings: Vec<u32> },
+    WriteHoldings { holdings: Vec<u32>, room: usize },
+    ReadHoldings { list: Vec<u8>, room: usize },
 }
 
 #[derive(Clone, Copy, PartialEq)]
@@ -49,7 +54,7 @@ enum Room {
 }
 
 /// Of each kind of question, in order: the function, how many numbers it gives, and the room that is lent to it.
-const KINDS: [(&str, usize, Room); 30] = [
+const KINDS: [(&str, usize, Room); 35] = [
     ("width, height, rows, columns, first, last", 6, Room::None),
     ("scale_of", 0, Room::None),
     ("locate", 3, Room::None),
@@ -80,12 +85,17 @@ const KINDS: [(&str, usize, Room); 30] = [
     ("official_check", 1, Room::None),
     ("local_to_sheet", 1, Room::None),
     ("sheet_to_local", 3, Room::None),
+    ("holding", 1, Room::None),
+    ("holding_parts", 2, Room::None),
+    ("holdings_length", 1, Room::None),
+    ("write_holdings", 1, Room::Bytes),
+    ("read_holdings", 2, Room::Sheets),
 ];
 
 /// The kinds whose numbers are floats.
 const IN_METRES: [usize; 2] = [23, 25];
 /// The results that there are: 0, and the numbers of refusal.
-const RESULTS: usize = 24;
+const RESULTS: usize = 25;
 
 const GUARD: usize = 8;
 const NONE: u32 = u32::MAX;
@@ -160,6 +170,22 @@ impl Form<'_> {
     fn bytes_room(&mut self, room: usize, written: &[u8]) {
         self.room(room, written, mark_u8, |to, byte| to.push(byte));
     }
+    /// A list that is written: its length, and the room.
+    fn written(&mut self, room: usize, answer: Answer<Vec<u8>>) {
+        self.value(answer.as_ref().map(|list| list.len() as u64).map_err(|refusal| *refusal));
+        self.bytes_room(room, &answer.unwrap_or_default());
+    }
+    /// A list that is read: how many were placed, the value, and the room.
+    fn placed(&mut self, room: usize, (placed, answer): (Vec<u32>, Answer<()>)) {
+        let (result, value) = match answer {
+            Ok(()) => (0, placed.len() as u64),
+            Err(refusal) => (refusal.number, refusal.carries.unwrap_or(0)),
+        };
+        self.begin(result);
+        self.number(placed.len() as u64);
+        self.number(value);
+        self.sheets_room(room, &placed);
+    }
 }
 
 impl Question {
@@ -195,6 +221,11 @@ impl Question {
             Question::OfficialCheck { .. } => 28,
             Question::LocalToSheet { .. } => 29,
             Question::SheetToLocal { .. } => 30,
+            Question::Holding { .. } => 31,
+            Question::HoldingParts { .. } => 32,
+            Question::HoldingsLength { .. } => 33,
+            Question::WriteHoldings { .. } => 34,
+            Question::ReadHoldings { .. } => 35,
         }
     }
 
@@ -267,15 +298,17 @@ impl Question {
                 bytes(to, a);
                 bytes(to, b);
             }
-            Question::ListLength { sheets } => set(to, sheets),
-            Question::WriteList { sheets, room } => {
-                set(to, sheets);
+            Question::ListLength { sheets: own } | Question::HoldingsLength { holdings: own } => set(to, own),
+            Question::WriteList { sheets: own, room } | Question::WriteHoldings { holdings: own, room } => {
+                set(to, own);
                 numbers(to, &[*room as u32]);
             }
-            Question::ReadList { list, room } => {
+            Question::ReadList { list, room } | Question::ReadHoldings { list, room } => {
                 bytes(to, list);
                 numbers(to, &[*room as u32]);
             }
+            Question::Holding { sheet, product } => numbers(to, &[*sheet, *product]),
+            Question::HoldingParts { holding } => numbers(to, &[*holding]),
             Question::LocalToSheet { municipality, n, a, b } => {
                 set(to, municipality);
                 numbers(to, &[*n, *a, *b]);
@@ -352,22 +385,8 @@ impl Question {
             }
             Question::SameName { a, b } => form.begin(paper::same_name(a, b) as u32),
             Question::ListLength { sheets } => form.value(division.list_length(sheets).map(|length| length as u64)),
-            Question::WriteList { sheets, room } => {
-                let answer = division.write_list(sheets, *room);
-                form.value(answer.as_ref().map(|list| list.len() as u64).map_err(|refusal| *refusal));
-                form.bytes_room(*room, &answer.unwrap_or_default());
-            }
-            Question::ReadList { list, room } => {
-                let (placed, answer) = division.read_list(list, *room);
-                let (result, value) = match answer {
-                    Ok(()) => (0, placed.len() as u64),
-                    Err(refusal) => (refusal.number, refusal.carries.unwrap_or(0)),
-                };
-                form.begin(result);
-                form.number(placed.len() as u64);
-                form.number(value);
-                form.sheets_room(*room, &placed);
-            }
+            Question::WriteList { sheets, room } => form.written(*room, division.write_list(sheets, *room)),
+            Question::ReadList { list, room } => form.placed(*room, division.read_list(list, *room)),
             Question::Frame { sheet } => form.several(division.frame_in_metres(*sheet), mark),
             Question::SheetAtMetres { scale, e, n } => form.value(division.sheet_at_metres(*scale, *e, *n)),
             Question::FrameAtMetres { scale, e, n } => form.several(division.frame_at_metres(*scale, *e, *n), mark),
@@ -387,6 +406,14 @@ impl Question {
                 let three = local.map(|numbers| [0, 1, 2].map(|place| numbers.get(place).map_or(0, |&number| number as u64)));
                 form.several(three, |salt, k| mark_u32(salt, k) as u64);
             }
+            Question::Holding { sheet, product } => form.value(paper::holding(*sheet, *product)),
+            Question::HoldingParts { holding } => {
+                let parts = paper::holding_parts(*holding).map(|(sheet, product)| [sheet as u64, product as u64]);
+                form.several(parts, |salt, k| mark_u32(salt, k) as u64);
+            }
+            Question::HoldingsLength { holdings } => form.value(division.holdings_length(holdings).map(|length| length as u64)),
+            Question::WriteHoldings { holdings, room } => form.written(*room, division.write_holdings(holdings, *room)),
+            Question::ReadHoldings { list, room } => form.placed(*room, division.read_holdings(list, *room)),
         }
     }
 }

@@ -1,9 +1,9 @@
 /* The library's side of the comparison: answers the questions that compare/against.rs asks, through include/qubathimi.h alone.
  *
  * Standard input has blocks: a length of four bytes, then so many bytes of questions. A question is its kind (a byte), a salt (four
- * bytes) and what is asked; numbers are little-endian, floats are told by their bits, bytes and sheets have their count in four bytes
- * before them, room has its length in four bytes. A block is read whole before its first answer is written. The end of the input ends
- * the program.
+ * bytes) and what is asked; numbers are little-endian, floats are told by their bits, bytes, sheets and holdings have their count in four
+ * bytes before them, room has its length in four bytes. A block is read whole before its first answer is written. The end of the input
+ * ends the program.
  *
  * An answer is its length (four bytes), then the kind, a byte that is 1 where something beside the places lent was written to, the
  * function's result (four bytes), the numbers or floats that it gives by pointers (eight bytes each), and the lent room: the first place
@@ -423,6 +423,41 @@ static void answer(void) {
         a = qubathimi_sheet_to_local(set, m, a, small_at(0), small_at(1), small_at(2));
         begin(kind, a);
         for (int k = 0; k < 3; k++) put(*small_at(k), 8);
+        break;
+    case 31:
+        a = take_u32();
+        b = take_u32();
+        a = qubathimi_holding(a, b, at(0));
+        begin(kind, a);
+        put_out(1);
+        break;
+    case 32:
+        a = take_u32();
+        a = qubathimi_holding_parts(a, small_at(0), small_at(1));
+        begin(kind, a);
+        for (int k = 0; k < 2; k++) put(*small_at(k), 8);
+        break;
+    case 33:
+        set = take_sheets(&m);
+        a = qubathimi_holdings_length(set, m, at(0));
+        begin(kind, a);
+        put_out(1);
+        break;
+    case 34:
+        set = take_sheets(&m);
+        bytes = lend_bytes();
+        a = qubathimi_write_holdings(set, m, bytes, room, at(0));
+        begin(kind, a);
+        put_out(1);
+        put_bytes_room();
+        break;
+    case 35:
+        one = take_bytes(&m);
+        places = lend_sheets();
+        a = qubathimi_read_holdings(one, m, places, room, at(0), at(1));
+        begin(kind, a);
+        put_out(2);
+        put_sheets_room();
         break;
     default:
         broken = 1;

@@ -12,7 +12,8 @@
 //! alone, is told by its bits: those below the sign as a whole number, with a minus in front where the sign is set, so that
 //! 4692333547057315840 is 500 000.0 and -0 is -0.0. The line of crates/cases/stdout is the question, a colon and the answer. A refusal is
 //! told by its number, and what it carries: 10 the room needed, and 4, 19, 20, 21 and 5 the place in the label, also where it is 0. Of more
-//! than forty bytes or sheets only the sum is told, and a sum is always one over the bytes that would be written.
+//! than forty bytes or sheets only the sum is told, and a sum is always one over the bytes that would be written. Holdings are told by
+//! their numbers, too; a question about lists of them has the form of that about lists of sheets, with a capital.
 //!
 //!     table 3                   of the scale: width and height in metres, first and last sheet; and the last scale and
 //!                               the last sheet of all
@@ -67,6 +68,14 @@
 //!                               step and the count
 //!     Municipality 2 4 0 78199 78174 25 400 7 5
 //!                               the same with another number in a place, as in `rule`
+//!     Together 344 1            the number of the sheet with the product
+//!     Apart 1033                the sheet and the product of the holding
+//!     Pack 8 3 0 1033 23859519  what `pack` tells, of holdings: of the new list, read by the new reader
+//!     Rule 9000 0 3 4096 7 5    what `rule` tells, of holdings
+//!     Heads 3 83400088          what `heads` tells, read by the new reader
+//!     Bytes 3 0300d702bc        what is read from the bytes as a list of sheets, by the old reader, and as a list of
+//!                               holdings, by the new one, in room for so many each
+//!     Vary 3 0300d702bc         a sum over what `Bytes` tells when each byte in turn is changed to each of the 256
 //!
 //! The questions that are stored there try, beside the examples: every border by one before, on and behind it (the area's and the sheets'
 //! edges by a millimetre and in metres by a float, the grids' ends, each scale's first and last sheet, each field's range, each length of a
@@ -77,7 +86,8 @@
 //! and marks that are not joined, marks that stand alone, twice, apart or broken, and names of unequal length that are the same; the
 //! fifteen official names, each with its sheet, with others and with slips, and lines of every scale and with every kind of fault;
 //! municipalities of 1 to 400 sheets and of none or too many, within a 1:50 000 sheet and across several, with each kind of fault at each
-//! place, and sheets and local numbers beside theirs; and some by chance.
+//! place, and sheets and local numbers beside theirs; each product at either end of each scale, holdings of one sheet side by side, lists
+//! of both kinds read by both readers, and first numbers about the counts of each kind; and some by chance.
 //!
 //! The lines of compare/examples.txt are document 01's examples and cases of document 02, question and answer written out by hand: these
 //! answers are not asked of the paper, but must be its own.
@@ -178,6 +188,13 @@ fn narrow(numbers: &[i64]) -> Vec<u32> {
     numbers.iter().map(|&number| number as u32).collect()
 }
 
+/// What a list is of: sheets, with the old writer and reader, or holdings, with the new ones.
+#[derive(Clone, Copy)]
+enum Of {
+    Sheets,
+    Holdings,
+}
+
 fn alike(one: &[u8], other: &[u8]) -> String {
     if paper::same_name(one, other) { "same" } else { "different" }.to_string()
 }
@@ -242,45 +259,60 @@ impl Paper {
         summed(sheets.map(text)).to_string()
     }
 
-    fn read_list(&self, list: &[u8], room: usize) -> String {
-        let (placed, ended) = self.0.read_list(list, room);
+    fn read_list(&self, of: Of, list: &[u8], room: usize) -> String {
+        let (placed, ended) = match of {
+            Of::Sheets => self.0.read_list(list, room),
+            Of::Holdings => self.0.read_holdings(list, room),
+        };
         let ended = told(ended.map(|()| "whole"));
         format!("from {} in {room} {ended} placed {}{}", list.len(), placed.len(), listed(&placed, room))
     }
 
-    fn write_list(&self, sheets: &[u32], room: usize) -> String {
-        let length = told(self.0.list_length(sheets));
-        let list = match self.0.write_list(sheets, room) {
+    fn write_list(&self, of: Of, numbers: &[u32], room: usize) -> String {
+        let (length, written) = match of {
+            Of::Sheets => (self.0.list_length(numbers), self.0.write_list(numbers, room)),
+            Of::Holdings => (self.0.holdings_length(numbers), self.0.write_holdings(numbers, room)),
+        };
+        let length = told(length);
+        let list = match written {
             Ok(list) => list,
             Err(refusal) => return format!("{length}, {refusal}  kept {room}"),
         };
-        let (count, long) = (sheets.len(), list.len());
+        let (count, long) = (numbers.len(), list.len());
         let shown = if long > LISTED { format!("sum {}", summed([hexadecimal(&list)])) } else { hexadecimal(&list) };
         let mut parts = vec![format!("{length}, {long} {shown} kept {}", room - long)];
-        parts.push(self.read_list(&list, count));
-        parts.push(self.read_list(&list[..long - 1], count));
+        parts.push(self.read_list(of, &list, count));
+        parts.push(self.read_list(of, &list[..long - 1], count));
         if long < room {
-            parts.push(self.read_list(&[&list[..], &[MARK]].concat(), count));
+            parts.push(self.read_list(of, &[&list[..], &[MARK]].concat(), count));
         }
         if count > 0 {
-            parts.push(self.read_list(&list, count - 1));
+            parts.push(self.read_list(of, &list, count - 1));
         }
         parts.join(" ")
     }
 
     fn many(&self, first: u32, step: u32, below: usize) -> String {
-        summed((0..below).map(|count| format!(" {}", self.write_list(&ruled(first, step, count), LIST_ROOM)))).to_string()
+        summed((0..below).map(|count| format!(" {}", self.write_list(Of::Sheets, &ruled(first, step, count), LIST_ROOM)))).to_string()
     }
 
-    fn bytes(&self, room: usize, bytes: &[u8]) -> String {
-        format!("{}, {}", self.label(bytes), self.read_list(bytes, room))
+    fn heads(&self, of: Of, room: usize, list: &[u8]) -> String {
+        spaced((0..=list.len()).map(|cut| self.read_list(of, &list[..cut], room)))
     }
 
-    fn vary(&self, room: usize, bytes: &[u8]) -> String {
+    fn bytes(&self, of: Of, room: usize, bytes: &[u8]) -> String {
+        let before = match of {
+            Of::Sheets => self.label(bytes),
+            Of::Holdings => self.read_list(Of::Sheets, bytes, room),
+        };
+        format!("{before}, {}", self.read_list(of, bytes, room))
+    }
+
+    fn vary(&self, of: Of, room: usize, bytes: &[u8]) -> String {
         let changed = |k: usize| {
             let mut bytes = bytes.to_vec();
             bytes[k / 256] = (k % 256) as u8;
-            format!(" {}", self.bytes(room, &bytes))
+            format!(" {}", self.bytes(of, room, &bytes))
         };
         summed((0..256 * bytes.len()).map(changed)).to_string()
     }
@@ -312,15 +344,18 @@ impl Paper {
             let [scale, e, n] = rest.split(' ').collect::<Vec<_>>()[..] else { return None };
             return Some(self.under(scale.parse().ok()?, float(e)?, float(n)?));
         }
-        if let "heads" | "bytes" | "vary" | "joined" | "identify" | "yours" = word {
+        if let "heads" | "Heads" | "bytes" | "Bytes" | "vary" | "Vary" | "joined" | "identify" | "yours" = word {
             let (number, digits) = rest.split_once(' ')?;
             let number = number.parse().ok()?;
             let places = (0..digits.len()).step_by(2);
             let bytes: Vec<u8> = places.map(|k| u8::from_str_radix(digits.get(k..k + 2)?, 16).ok()).collect::<Option<_>>()?;
             return Some(match word {
-                "heads" => spaced((0..=bytes.len()).map(|cut| self.read_list(&bytes[..cut], number))),
-                "bytes" => self.bytes(number, &bytes),
-                "vary" => self.vary(number, &bytes),
+                "heads" => self.heads(Of::Sheets, number, &bytes),
+                "Heads" => self.heads(Of::Holdings, number, &bytes),
+                "bytes" => self.bytes(Of::Sheets, number, &bytes),
+                "Bytes" => self.bytes(Of::Holdings, number, &bytes),
+                "vary" => self.vary(Of::Sheets, number, &bytes),
+                "Vary" => self.vary(Of::Holdings, number, &bytes),
                 "joined" => alike(bytes.get(..number)?, &bytes[number..]),
                 _ if number != 0 => return None,
                 "identify" => self.identify(&bytes),
@@ -343,8 +378,18 @@ impl Paper {
             ("every", &[first, last, far]) => self.every(first as u32, last as u32, far as u32),
             ("write", &[sheet, room]) => self.write_label(sheet as u32, room as usize),
             ("groups", &[number]) => paper::groups(number as u32).to_string(),
-            ("pack", &[room, count, ref sheets @ ..]) if sheets.len() == count as usize => self.write_list(&narrow(sheets), room as usize),
-            ("rule", &[room, first, step, count, ref other @ ..]) => self.write_list(&ruled_but(first, step, count, other)?, room as usize),
+            ("pack", &[room, count, ref sheets @ ..]) if sheets.len() == count as usize => {
+                self.write_list(Of::Sheets, &narrow(sheets), room as usize)
+            }
+            ("Pack", &[room, count, ref holdings @ ..]) if holdings.len() == count as usize => {
+                self.write_list(Of::Holdings, &narrow(holdings), room as usize)
+            }
+            ("rule", &[room, first, step, count, ref other @ ..]) => {
+                self.write_list(Of::Sheets, &ruled_but(first, step, count, other)?, room as usize)
+            }
+            ("Rule", &[room, first, step, count, ref other @ ..]) => {
+                self.write_list(Of::Holdings, &ruled_but(first, step, count, other)?, room as usize)
+            }
             ("many", &[first, step, below]) => self.many(first as u32, step as u32, below as usize),
             ("known", &[sheet, room @ 0..=NAME_ROOM]) => self.known(sheet as u32, room as usize),
             ("Local", &[n, a, b, sheet, count, ref sheets @ ..]) if sheets.len() == count as usize => {
@@ -353,6 +398,8 @@ impl Paper {
             ("Municipality", &[n, a, b, sheet, first, step, count, ref other @ ..]) => {
                 self.local([n, a, b, sheet], &ruled_but(first, step, count, other)?)
             }
+            ("Together", &[sheet, product]) => told(paper::holding(sheet as u32, product as u32)),
+            ("Apart", &[holding]) => told(paper::holding_parts(holding as u32).map(|(sheet, product)| spaced([sheet, product]))),
             _ => return None,
         })
     }

@@ -587,36 +587,12 @@ impl Division {
 
     /// The bytes of a list of these sheets: 9, then at the first faulty place 3 before 15.
     pub fn list_length(&self, sheets: &[u32]) -> Answer<usize> {
-        self.spell_list(sheets).map(|list| list.len())
+        spell_list(0, sheets, scale_of).map(|list| list.len())
     }
 
     /// The list of these sheets with lent room for so many bytes: 9, 3 or 15, 10.
     pub fn write_list(&self, sheets: &[u32], room: usize) -> Answer<Vec<u8>> {
-        let list = self.spell_list(sheets)?;
-        if list.len() > room {
-            return too_short(list.len());
-        }
-        Ok(list)
-    }
-
-    fn spell_list(&self, sheets: &[u32]) -> Answer<Vec<u8>> {
-        if sheets.len() > MOST {
-            return refuse(9);
-        }
-        let mut list = Vec::new();
-        put_number(&mut list, sheets.len() as u32);
-        let mut least = 0;
-        for &sheet in sheets {
-            if sheet > LAST_SHEET {
-                return refuse(3);
-            }
-            if sheet < least {
-                return refuse(15);
-            }
-            put_number(&mut list, sheet - least);
-            least = sheet + 1;
-        }
-        Ok(list)
+        within(room, spell_list(0, sheets, scale_of)?)
     }
 
     /// The sheets of a list, as far as lent room for so many has taken them, and the refusal if any: 11, 12 of the count, 10, then
@@ -742,21 +718,55 @@ fn take_number(bytes: &[u8]) -> Answer<(u32, &[u8])> {
     Ok((number, &bytes[last + 1..]))
 }
 
+/// The list of these numbers, which begins with their count and so much more: 9, then at the first faulty place what `judge` has against
+/// the number before 15.
+fn spell_list<T>(more: u32, numbers: &[u32], judge: impl Fn(u32) -> Answer<T>) -> Answer<Vec<u8>> {
+    if numbers.len() > MOST {
+        return refuse(9);
+    }
+    let mut list = Vec::new();
+    put_number(&mut list, more + numbers.len() as u32);
+    let mut least = 0;
+    for &number in numbers {
+        judge(number)?;
+        if number < least {
+            return refuse(15);
+        }
+        put_number(&mut list, number - least);
+        least = number + 1;
+    }
+    Ok(list)
+}
+
+/// A list in lent room for so many bytes: 10.
+fn within(room: usize, list: Vec<u8>) -> Answer<Vec<u8>> {
+    if list.len() > room {
+        return too_short(list.len());
+    }
+    Ok(list)
+}
+
 fn place_list(list: &[u8], room: usize, placed: &mut Vec<u32>) -> Answer<()> {
-    let (count, mut rest) = take_number(list)?;
+    let (count, entries) = take_number(list)?;
     if count as usize > MOST {
         return refuse(12);
     }
-    if count as usize > room {
-        return too_short(count as usize);
+    place_entries(count as usize, entries, room, placed, |sheet| scale_of(sheet).map(|_| sheet))
+}
+
+/// So many entries, and nothing behind them, each placed as `judge` has its number: 10, then 11, 12 of each entry and what `judge` has
+/// against its number, where 13 stands for 3, then 14.
+fn place_entries(count: usize, entries: &[u8], room: usize, placed: &mut Vec<u32>, judge: impl Fn(u32) -> Answer<u32>) -> Answer<()> {
+    if count > room {
+        return too_short(count);
     }
-    let mut least = 0;
+    let (mut least, mut rest) = (0, entries);
     for _ in 0..count {
         let (number, behind) = take_number(rest)?;
-        if least + number > LAST_SHEET {
-            return refuse(13);
+        match judge(least + number) {
+            Err(Refusal { number: 3, .. }) => return refuse(13),
+            judged => placed.push(judged?),
         }
-        placed.push(least + number);
         least += number + 1;
         rest = behind;
     }
@@ -939,6 +949,70 @@ impl Division {
         };
         numbers.insert(0, number);
         Ok(numbers)
+    }
+}
+
+// ---- Document 02, g) "Two products on one sheet" ----
+
+/// "source document 000, table 7": the products of each scale, in its order.
+const PRODUCTS: [&[&str]; 9] =
+    [&["TK250"], &["TK100"], &["TK50"], &["TK25"], &["HOK10"], &["HOK5", "DOF5"], &["KP2000", "DOF2"], &["KP1000"], &["KP500"]];
+
+/// "for them 3 and 13 mean above 23 859 521".
+pub const LAST_HOLDING: u32 = 23_859_521;
+
+/// "The new list begins with 8 192 plus the count".
+pub const NEW_LIST: u32 = 8_192;
+
+/// The number of a sheet with a product, "0 unstated, 1 the first product of the scale, 2 the second": "three times the sheet number plus
+/// the product", or 3, then 24, "a product the scale doesn't have".
+pub fn holding(sheet: u32, product: u32) -> Answer<u32> {
+    let scale = scale_of(sheet)?;
+    if product as usize > PRODUCTS[scale as usize - 1].len() {
+        return refuse(24);
+    }
+    Ok(3 * sheet + product)
+}
+
+/// The sheet and the product that have this number: 3, 24.
+pub fn holding_parts(number: u32) -> Answer<(u32, u32)> {
+    if number > LAST_HOLDING {
+        return refuse(3);
+    }
+    let (sheet, product) = (number / 3, number % 3);
+    holding(sheet, product).map(|_| (sheet, product))
+}
+
+impl Division {
+    /// The bytes of a new list of these holdings: 9, then at the first faulty place 3, 24, 15.
+    pub fn holdings_length(&self, holdings: &[u32]) -> Answer<usize> {
+        spell_list(NEW_LIST, holdings, holding_parts).map(|list| list.len())
+    }
+
+    /// The new list of these holdings with lent room for so many bytes: 9; 3, 24 or 15; 10.
+    pub fn write_holdings(&self, holdings: &[u32], room: usize) -> Answer<Vec<u8>> {
+        within(room, spell_list(NEW_LIST, holdings, holding_parts)?)
+    }
+
+    /// The holdings of a list of either kind, as far as lent room for so many has taken them, and the refusal if any: 11, 12 of the first
+    /// number, 10, then 11, 12, 13, 24 of each entry, then 14.
+    pub fn read_holdings(&self, list: &[u8], room: usize) -> (Vec<u32>, Answer<()>) {
+        let mut placed = Vec::new();
+        let answer = place_holdings(list, room, &mut placed);
+        (placed, answer)
+    }
+}
+
+/// "The new reader takes both, an old entry as product 0; its first number may be 0 to 4 096 or 8 192 to 12 288, and any other is 12."
+fn place_holdings(list: &[u8], room: usize, placed: &mut Vec<u32>) -> Answer<()> {
+    let (first, entries) = take_number(list)?;
+    match first {
+        0..=4_096 => place_entries(first as usize, entries, room, placed, |sheet| holding(sheet, 0)),
+        8_192..=12_288 => {
+            let count = (first - NEW_LIST) as usize;
+            place_entries(count, entries, room, placed, |number| holding_parts(number).map(|_| number))
+        }
+        _ => refuse(12),
     }
 }
 
@@ -1737,5 +1811,155 @@ mod tests {
                 hold(&municipality, refusal);
             }
         }
+    }
+
+    // ---- Document 02, g) ----
+
+    /// "2 the second, which only scales 6 and 7 have".
+    #[test]
+    fn products() {
+        for (scale, facts) in (1..).zip(&SCALES) {
+            for sheet in [facts.first, facts.first + facts.sheets - 1] {
+                for product in [0, 1, 2, 3, 4, 255, 256, 1 << 31, u32::MAX - 1, u32::MAX] {
+                    let had = product < 2 || (product == 2 && [6, 7].contains(&scale));
+                    assert_eq!(holding(sheet, product), if had { Ok(3 * sheet + product) } else { refuse(24) }, "{sheet} {product}");
+                }
+            }
+        }
+        // The latter three have a triple that is small in 32 bits.
+        for sheet in [LAST_SHEET + 1, 1 << 23, u32::MAX, 1_431_655_765, 1_431_655_766, 2_863_311_531] {
+            for product in [0, 1, 2, 3, u32::MAX] {
+                assert_eq!(holding(sheet, product), refuse(3), "{sheet} {product}");
+            }
+        }
+        assert_eq!(holding(read("5-1-3-109-11").expect("a sheet"), 2), Ok(105_674));
+        assert_eq!(holding(read("2-301-109-11").expect("a sheet"), 2), Ok(554_174));
+        assert_eq!(holding(read("10-11-109-11").expect("a sheet"), 2), refuse(24));
+    }
+
+    /// Over all numbers: each is that of one sheet with one product, or 24.
+    #[test]
+    fn numbers_of_holdings() {
+        let mut counts = [0; 3];
+        for number in 0..=LAST_HOLDING {
+            match holding_parts(number) {
+                Ok((sheet, product)) => {
+                    assert_eq!(holding(sheet, product), Ok(number));
+                    counts[product as usize] += 1;
+                }
+                refused => assert_eq!(refused, refuse(24)),
+            }
+        }
+        assert_eq!(counts, [7_953_174, 7_953_174, 435_000]);
+        assert_eq!(holding_parts(LAST_HOLDING - 1), Ok((LAST_SHEET, 1)));
+        assert_eq!(holding_parts(LAST_HOLDING), refuse(24));
+        for number in [LAST_HOLDING + 1, LAST_HOLDING + 2, 1 << 28, (1 << 31) + 1, u32::MAX] {
+            assert_eq!(holding_parts(number), refuse(3));
+        }
+    }
+
+    /// A number in so many groups, however many it takes.
+    fn in_groups(number: u32, groups: usize) -> Vec<u8> {
+        (0..groups).map(|k| (number as u64 >> (7 * k)) as u8 % 128 + if k + 1 < groups { 128 } else { 0 }).collect()
+    }
+
+    #[test]
+    fn lists_of_holdings() {
+        let cases: [(&[u32], &[u8]); 6] = [
+            (&[], &[0x80, 0x40]),
+            (&[0], &[0x81, 0x40, 0x00]),
+            (&[1_033], &[0x81, 0x40, 0x89, 0x08]),
+            (&[0, 1, 1_032, 1_033], &[0x84, 0x40, 0x00, 0x00, 0x86, 0x08, 0x00]),
+            // The first sheet of 1:5 000 with all that it may be held as.
+            (&[54_522, 54_523, 54_524], &[0x83, 0x40, 0xFA, 0xA9, 0x03, 0x00, 0x00]),
+            (&[0, 1_033, 23_859_520], &[0x83, 0x40, 0x00, 0x88, 0x08, 0xB6, 0x9A, 0xB0, 0x0B]),
+        ];
+        for (holdings, list) in cases {
+            let (count, long) = (holdings.len(), list.len());
+            assert_eq!(division().holdings_length(holdings), Ok(long));
+            assert_eq!(division().write_holdings(holdings, long), Ok(list.to_vec()));
+            assert_eq!(division().write_holdings(holdings, long - 1), too_short(long));
+            assert_eq!(division().read_holdings(list, count), (holdings.to_vec(), Ok(())));
+            assert_eq!(division().read_holdings(&[list, &[0]].concat(), count), (holdings.to_vec(), refuse(14)));
+            for cut in 0..long {
+                let (placed, answer) = division().read_holdings(&list[..cut], count);
+                assert_eq!(answer, refuse(11));
+                assert_eq!(placed, holdings[..placed.len()]);
+            }
+            for room in 0..count {
+                assert_eq!(division().read_holdings(list, room), (vec![], too_short(count)));
+            }
+        }
+        assert_eq!(division().read_holdings(&cases[5].1[..5], 3), (vec![0, 1_033], refuse(11)));
+        assert_eq!(division().read_holdings(&cases[5].1[..4], 3), (vec![0], refuse(11)));
+        // As many as there may be, and one more.
+        let most: Vec<u32> = (54_522..).take(MOST).collect();
+        let list = division().write_holdings(&most, 4_100).expect("a list");
+        assert_eq!(list, [&[0x80, 0x60, 0xFA, 0xA9, 0x03][..], &[0; 4_095]].concat());
+        assert_eq!(division().read_holdings(&list, MOST), (most, Ok(())));
+        assert_eq!(division().holdings_length(&[u32::MAX; MOST + 1]), refuse(9));
+    }
+
+    /// "The new reader takes both, an old entry as product 0", and "The present reader refuses such a list with 12".
+    #[test]
+    fn both_kinds() {
+        let old = [0x03, 0x00, 0xD7, 0x02, 0xBC, 0xB3, 0xE5, 0x03];
+        assert_eq!(division().read_holdings(&old, 3), (vec![0, 1_032, 23_859_519], Ok(())));
+        assert_eq!(division().read_holdings(&old[..5], 3), (vec![0, 1_032], refuse(11)));
+        assert_eq!(division().read_holdings(&old, 2), (vec![], too_short(3)));
+        for number in [0, 1, LAST_SHEET, LAST_SHEET + 1, LAST_SHEET + 2, LAST_HOLDING - 1, LAST_HOLDING, LAST_HOLDING + 1] {
+            let entry = in_groups(number, groups(number));
+            let (sheets, answer) = division().read_list(&[&[1][..], &entry].concat(), 1);
+            let tripled = sheets.iter().map(|sheet| 3 * sheet).collect();
+            assert_eq!(division().read_holdings(&[&[1][..], &entry].concat(), 1), (tripled, answer));
+            let alone = holding_parts(number).map(|_| ());
+            let answer = alone.or_else(|refusal| refuse(if refusal.number == 3 { 13 } else { 24 }));
+            let placed = if answer.is_ok() { vec![number] } else { vec![] };
+            assert_eq!(division().read_holdings(&[&[0x81, 0x40][..], &entry].concat(), 1), (placed, answer));
+        }
+        // The first number alone, and badly written.
+        for first in 0..20_000 {
+            let whole = in_groups(first, groups(first));
+            let (count, is_old) = match first {
+                0..=4_096 => (first, true),
+                8_192..=12_288 => (first - 8_192, false),
+                _ => {
+                    assert_eq!(division().read_holdings(&whole, 5_000), (vec![], refuse(12)));
+                    continue;
+                }
+            };
+            let alone = if count == 0 { Ok(()) } else { too_short(count as usize) };
+            assert_eq!(division().read_holdings(&whole, 0), (vec![], alone));
+            assert_eq!(division().read_list(&whole, 0), (vec![], if is_old { alone } else { refuse(12) }));
+            for more in whole.len() + 1..=5 {
+                assert_eq!(division().read_holdings(&in_groups(first, more), 5_000), (vec![], refuse(12)));
+            }
+        }
+    }
+
+    /// "24, a product the scale doesn't have, after 13 in reading and after 3 in writing".
+    #[test]
+    fn holdings_refused() {
+        let [good, second, none] = [54_522, 54_521, LAST_HOLDING + 1];
+        let cases: [(&[u32], u32); 17] = [
+            (&[none], 3), (&[u32::MAX], 3), (&[2], 24), (&[LAST_HOLDING], 24), (&[second], 24), (&[1_359_524], 24),
+            (&[good, good], 15), (&[good, good - 2], 15),
+            // 24 before 15 at one place.
+            (&[good, second], 24), (&[good, 2], 24), (&[1_359_521, good, second], 15), (&[1_359_521, second, good], 24),
+            // The first faulty place, whatever its fault is.
+            (&[good, good, none], 15), (&[good, second, none], 24), (&[good, none, second], 3), (&[none, none], 3),
+            (&[LAST_HOLDING, none], 24),
+        ];
+        for (holdings, number) in cases {
+            assert_eq!(division().holdings_length(holdings), refuse(number), "{holdings:?}");
+            for room in [0, 100] {
+                assert_eq!(division().write_holdings(holdings, room), refuse(number), "{holdings:?}");
+            }
+        }
+        // Badly written and with a product that is not had: 12; of two entries the first.
+        assert_eq!(division().read_holdings(&[0x81, 0x40, 0x82, 0x00], 1), (vec![], refuse(12)));
+        assert_eq!(division().read_holdings(&[0x82, 0x40, 0x02, 0x80], 2), (vec![], refuse(24)));
+        assert_eq!(division().read_holdings(&[0x82, 0x40, 0x01, 0x00], 2), (vec![1], refuse(24)));
+        assert_eq!(division().read_holdings(&[0x81, 0x40, 0x02, 0x00], 1), (vec![], refuse(24)));
     }
 }

@@ -2,8 +2,8 @@
 
 use crate::ask::{Asker, Question};
 use crate::paper::{
-    self, Division, Frame, Made, Refusal, Scale, AREA_EAST, AREA_NORTH, AREA_SOUTH, AREA_WEST, JOINED, LAST_SHEET, MOST,
-    MOST_OF_MUNICIPALITY, OFFICIAL, SCALES,
+    self, Answer, Division, Frame, Made, Refusal, Scale, AREA_EAST, AREA_NORTH, AREA_SOUTH, AREA_WEST, JOINED, LAST_HOLDING, LAST_SHEET,
+    MOST, MOST_OF_MUNICIPALITY, NEW_LIST, OFFICIAL, SCALES,
 };
 use std::collections::BTreeSet;
 
@@ -216,6 +216,107 @@ enum Parts {
     One,
 }
 
+/// First numbers of lists: about the counts of both kinds, about each length in groups, and the largest.
+const FIRST_NUMBERS: [u32; 26] = [
+    0,
+    1,
+    2,
+    3,
+    127,
+    128,
+    129,
+    4_094,
+    4_095,
+    4_096,
+    4_097,
+    8_191,
+    8_192,
+    8_193,
+    8_194,
+    8_320,
+    12_287,
+    12_288,
+    12_289,
+    16_383,
+    16_384,
+    (1 << 21) - 1,
+    1 << 21,
+    (1 << 28) - 1,
+    1 << 28,
+    u32::MAX,
+];
+
+/// The first number from which on every number is a holding for a long way: that of the first 1:5 000 sheet.
+const ALL_HELD: u32 = 3 * SCALES[5].first;
+
+/// What short sets of holdings are made of: those of a sheet that has both products, and the last such one; the first and the last of all;
+/// products 2 that are not had, of the first sheet, the last, and those next to the two scales; and numbers that are no holding.
+const OF_HOLDINGS: [u32; 14] = [
+    ALL_HELD,
+    ALL_HELD + 1,
+    ALL_HELD + 2,
+    3 * SCALES[7].first - 1,
+    0,
+    1,
+    LAST_HOLDING - 2,
+    LAST_HOLDING - 1,
+    2,
+    LAST_HOLDING,
+    ALL_HELD - 1,
+    3 * SCALES[7].first + 2,
+    LAST_HOLDING + 1,
+    u32::MAX,
+];
+
+/// The two kinds of list: of sheets and of holdings.
+#[derive(Clone, Copy)]
+enum Kind {
+    Old,
+    New,
+}
+
+const BOTH: [Kind; 2] = [Kind::Old, Kind::New];
+
+impl Kind {
+    /// What the first number of a list has beside the count.
+    fn more(self) -> u32 {
+        match self {
+            Kind::Old => 0,
+            Kind::New => NEW_LIST,
+        }
+    }
+    /// The last number that an entry may lead to.
+    fn last(self) -> u32 {
+        match self {
+            Kind::Old => LAST_SHEET,
+            Kind::New => LAST_HOLDING,
+        }
+    }
+    /// The list of some rising numbers, good or not.
+    fn list_of(self, numbers: &[u32]) -> Vec<u8> {
+        let first = self.more() + numbers.len() as u32;
+        let mut list = in_groups(first, paper::groups(first));
+        let mut least = 0;
+        for &number in numbers {
+            list.extend(in_groups(number - least, paper::groups(number - least)));
+            least = number + 1;
+        }
+        list
+    }
+}
+
+/// A number in so many groups, which may be more than it takes.
+fn in_groups(number: u32, groups: usize) -> Vec<u8> {
+    let group = |k: usize| (number as u64 >> (7 * k) & 127) as u8 | if k + 1 < groups { 128 } else { 0 };
+    (0..groups).map(group).collect()
+}
+
+/// So many holdings, or as many as there are, of the sheets from one on by so many, each with all its products.
+fn holdings_from(first: u32, step: usize, count: usize) -> Vec<u32> {
+    let products = |sheet: u32| (0..3).filter_map(move |product| paper::holding(sheet, product).ok());
+    (first..=LAST_SHEET).step_by(step).flat_map(products).take(count).collect()
+}
+
 /// All texts over some letters, of no letter up to so many.
 fn texts(letters: &[u8], most: u32) -> impl Iterator<Item = Vec<u8>> + '_ {
     let text = move |length: u32, choice: usize| (0..length).map(|k| letters[choice / letters.len().pow(k) % letters.len()]).collect();
@@ -336,6 +437,14 @@ pub fn ask_all(division: &Division, asker: &mut Asker, seed: u64, long: bool) {
     asking.long_municipalities();
     asking.short_lists();
     asking.long_sets();
+    asking.ends_of_products();
+    asking.short_sets_of_holdings(if long { 4 } else { 3 });
+    asking.long_sets_of_holdings();
+    asking.first_numbers();
+    asking.ends_of_lists();
+    asking.short_lists_of_holdings(if long { 5 } else { 4 });
+    asking.each_byte();
+    asking.each_cut(if long { 2_000 } else { 100 });
     if long {
         asking.each_sheet();
         asking.each_local_number();
@@ -371,6 +480,11 @@ pub fn ask_all(division: &Division, asker: &mut Asker, seed: u64, long: bool) {
                 asking.about_official_names();
                 asking.about_a_set();
                 asking.about_a_list();
+            }
+            for _ in 0..60 {
+                asking.about_a_holding();
+                asking.about_holdings();
+                asking.about_both_readers();
             }
             for _ in 0..20 {
                 asking.about_a_municipality();
@@ -483,8 +597,8 @@ impl Asking<'_, '_> {
         }
     }
 
-    /// Every sheet, its neighbours, its label, what the list of official names says of it, and the ways back: by the place, the corner
-    /// points, also in metres, the parent and the label.
+    /// Every sheet, its neighbours, its label, what the list of official names says of it, its holdings, and the ways back: by the place,
+    /// the corner points, also in metres, the parent, the label and the holding.
     fn each_sheet(&mut self) {
         for sheet in 0..=LAST_SHEET {
             self.ask_of_sheet(sheet);
@@ -503,6 +617,10 @@ impl Asking<'_, '_> {
             if let Ok(parent) = self.division.parent(sheet) {
                 let number = self.division.number(sheet);
                 self.ask(Question::Child { sheet: parent, scale: place.scale, number });
+            }
+            for product in 0..3 {
+                self.ask(Question::Holding { sheet, product });
+                self.ask(Question::HoldingParts { holding: 3 * sheet + product });
             }
         }
     }
@@ -1778,46 +1896,50 @@ impl Asking<'_, '_> {
 
     // ---- Shelf lists ----
 
-    /// A rising set of about so many sheets, by gaps; the gaps are of each length in bytes.
-    fn rising(&mut self, count: usize) -> Vec<u32> {
-        let mut sheets = Vec::with_capacity(count);
+    /// A rising set of about so many numbers up to a last one, by gaps; the gaps are of each length in bytes.
+    fn rising(&mut self, count: usize, last: u32) -> Vec<u32> {
+        let mut numbers = Vec::with_capacity(count);
         let wide = self.chance.below(4);
-        let mut next: u64 = if self.chance.one_in(2) { 0 } else { self.chance.below(LAST_SHEET as usize) as u64 };
+        let mut next: u64 = if self.chance.one_in(2) { 0 } else { self.chance.below(last as usize) as u64 };
         if count > 100 {
             next %= 100_000;
         }
-        while sheets.len() < count {
+        while numbers.len() < count {
             let gap = match (wide, self.chance.below(20)) {
                 (_, 0) => self.chance.of(&[0, 1, 126, 127, 128, 129]),
                 (_, 1) if count < 1000 => self.chance.of(&[16_382, 16_383, 16_384, 16_385]),
                 (_, 2) if count < 20 => self.chance.of(&[2_097_150, 2_097_151, 2_097_152, 2_097_153]),
                 (0, _) => 0,
                 (1, _) => self.chance.below(200) as u64,
-                (2, _) => self.chance.below(3 * LAST_SHEET as usize / 2 / count) as u64,
+                (2, _) => self.chance.below(3 * last as usize / 2 / count) as u64,
                 _ => self.chance.below(20) as u64,
             };
-            if next + gap > LAST_SHEET as u64 {
+            if next + gap > last as u64 {
                 break;
             }
-            sheets.push((next + gap) as u32);
+            numbers.push((next + gap) as u32);
             next += gap + 1;
         }
-        if self.chance.one_in(12) && sheets.len() < MOST && sheets.last() != Some(&LAST_SHEET) {
-            sheets.push(LAST_SHEET);
+        if self.chance.one_in(12) && numbers.len() < MOST && numbers.last() != Some(&last) {
+            numbers.push(last);
         }
-        sheets
+        numbers
     }
 
-    fn set(&mut self) -> Vec<u32> {
-        let count = match self.chance.below(60) {
+    fn count_of_set(&mut self) -> usize {
+        match self.chance.below(60) {
             0 => 0,
             1 => 4_094 + self.chance.below(6),
             2 => self.chance.below(5_000),
             3 => 100 + self.chance.below(400),
             4 => 126 + self.chance.below(5),
             _ => 1 + self.chance.below(12),
-        };
-        let mut sheets = self.rising(count);
+        }
+    }
+
+    fn set(&mut self) -> Vec<u32> {
+        let count = self.count_of_set();
+        let mut sheets = self.rising(count, LAST_SHEET);
         if !sheets.is_empty() && self.chance.one_in(3) {
             self.put_faults(&mut sheets);
         }
@@ -1847,16 +1969,21 @@ impl Asking<'_, '_> {
         self.ask_of_set(sheets);
     }
 
-    fn ask_of_set(&mut self, sheets: Vec<u32>) {
-        let needed = self.division.list_length(&sheets).unwrap_or(20);
-        let room = match self.chance.below(10) {
+    /// Room for the bytes of a list that has so many, or would have some.
+    fn room_to_write(&mut self, length: Answer<usize>) -> usize {
+        let needed = length.unwrap_or(20);
+        match self.chance.below(10) {
             0 => 0,
             1 => needed - 1,
             2 => self.chance.below(needed),
             3 => needed + 1,
             4 => needed + self.chance.below(60),
             _ => needed,
-        };
+        }
+    }
+
+    fn ask_of_set(&mut self, sheets: Vec<u32>) {
+        let room = self.room_to_write(self.division.list_length(&sheets));
         self.ask(Question::ListLength { sheets: sheets.clone() });
         self.ask(Question::WriteList { sheets, room });
     }
@@ -1903,36 +2030,39 @@ impl Asking<'_, '_> {
 
     /// A number as a list has it, or in more groups than needed.
     fn put_number(&mut self, list: &mut Vec<u8>, number: u32) {
-        let mut groups = 1;
-        while number as u64 >> (7 * groups) != 0 {
-            groups += 1;
-        }
+        let mut groups = paper::groups(number);
         if self.chance.one_in(30) {
             groups += 1 + self.chance.below(2);
         }
-        for k in 0..groups {
-            let high = if k + 1 < groups { 128 } else { 0 };
-            list.push((number as u64 >> (7 * k) & 127) as u8 | high);
-        }
+        list.extend(in_groups(number, groups));
     }
 
-    fn list(&mut self) -> Vec<u8> {
+    /// The list of about so many sheets or holdings.
+    fn good_list(&mut self, kind: Kind, count: usize) -> Vec<u8> {
+        let list = match kind {
+            Kind::Old => self.division.write_list(&self.rising(count, LAST_SHEET), usize::MAX),
+            Kind::New => self.division.write_holdings(&self.rising_holdings(count), usize::MAX),
+        };
+        list.expect("a set")
+    }
+
+    fn list(&mut self, kind: Kind) -> Vec<u8> {
         if self.chance.one_in(3) {
-            // By numbers: a count, right or not, and entries that may run past the last sheet.
+            // By numbers: a count, right or not, and entries that may run past the last one.
             let count = self.chance.below(6);
             let told = match self.chance.below(12) {
-                0 => count as u32 + 1,
-                1 => count.saturating_sub(1) as u32,
-                2 => self.chance.of(&[4_095, 4_096, 4_097, 8_192, 16_383, 16_384, 1 << 21, (1 << 28) - 1, 1 << 28]),
-                _ => count as u32,
+                0 => kind.more() + count as u32 + 1,
+                1 => kind.more() + count.saturating_sub(1) as u32,
+                2 => self.chance.of(&FIRST_NUMBERS),
+                _ => kind.more() + count as u32,
             };
             let mut list = Vec::new();
             self.put_number(&mut list, told);
             let mut next = 0u32;
             for _ in 0..count {
                 let number = match self.chance.below(10) {
-                    0 => LAST_SHEET.wrapping_sub(next),
-                    1 => LAST_SHEET.wrapping_sub(next).wrapping_add(1),
+                    0 => kind.last().wrapping_sub(next),
+                    1 => kind.last().wrapping_sub(next).wrapping_add(1),
                     2 => self.chance.any_u32(),
                     3 => (1 << 28) - 1,
                     4 => self.chance.of(&[127, 128, 16_383, 16_384, 2_097_151, 2_097_152]),
@@ -1958,8 +2088,7 @@ impl Asking<'_, '_> {
             3 => 0,
             _ => 1 + self.chance.below(10),
         };
-        let sheets = self.rising(count);
-        let mut list = self.division.write_list(&sheets, usize::MAX).expect("a set");
+        let mut list = self.good_list(kind, count);
         let place = self.chance.below(list.len());
         match self.chance.below(12) {
             0 | 1 => list.truncate(place),
@@ -1976,13 +2105,13 @@ impl Asking<'_, '_> {
         list
     }
 
-    fn about_a_list(&mut self) {
-        let list = self.list();
-        let told = match self.division.read_list(&list, 0).1 {
+    /// Room for what a list has, by what its reader has said of it with none.
+    fn room_to_read(&mut self, (_, said): (Vec<u32>, Answer<()>)) -> usize {
+        let told = match said {
             Err(Refusal { number: 10, carries: Some(needed) }) => needed as usize,
             _ => 2,
         };
-        let room = match self.chance.below(10) {
+        match self.chance.below(10) {
             0 => 0,
             1 => told - 1,
             2 => self.chance.below(told),
@@ -1990,7 +2119,277 @@ impl Asking<'_, '_> {
             4 => told + self.chance.below(50),
             5 => MOST,
             _ => told,
-        };
+        }
+    }
+
+    fn about_a_list(&mut self) {
+        let list = self.list(Kind::Old);
+        let room = self.room_to_read(self.division.read_list(&list, 0));
         self.ask(Question::ReadList { list, room });
+    }
+
+    // ---- Holdings ----
+
+    /// Each product and beyond at the first and the last sheet of each scale, beside them and at numbers that are no sheet, with some whose
+    /// triple is small in 32 bits; and the numbers about all these.
+    fn ends_of_products(&mut self) {
+        let ends = SCALES.iter().flat_map(|facts| [facts.first, facts.first + facts.sheets]);
+        let near = ends.flat_map(|end| end.saturating_sub(2)..=end + 1);
+        let far = EXTREME_U32.into_iter().chain([u32::MAX / 3, u32::MAX / 3 + 1, u32::MAX / 3 * 2, u32::MAX / 3 * 2 + 1]);
+        for sheet in near.chain(far).collect::<BTreeSet<u32>>() {
+            let triple = sheet.wrapping_mul(3);
+            // Products that are small when they lose their upper bits, and those that make up for the sheet.
+            let wide = (2..32).map(|bit| 1 << bit | bit % 3).chain((0..3).map(|k| triple.wrapping_neg().wrapping_add(k)));
+            for product in (0..5).chain(EXTREME_U32).chain(wide) {
+                self.ask(Question::Holding { sheet, product });
+            }
+            for far in 0..9 {
+                self.ask(Question::HoldingParts { holding: triple.wrapping_add(far).wrapping_sub(3) });
+            }
+            for bit in 24..32 {
+                self.ask(Question::HoldingParts { holding: triple ^ 1 << bit });
+            }
+        }
+        for holding in EXTREME_U32 {
+            self.ask(Question::HoldingParts { holding });
+        }
+    }
+
+    fn about_a_holding(&mut self) {
+        let product = match self.chance.below(12) {
+            0 => self.chance.of(&EXTREME_U32),
+            1 => self.chance.any_u32(),
+            _ => self.chance.below(4) as u32,
+        };
+        let sheet = self.sheet();
+        self.ask(Question::Holding { sheet, product });
+        let holding = match self.chance.below(6) {
+            0 => self.chance.any_u32(),
+            1 => LAST_HOLDING - 4 + self.chance.below(9) as u32,
+            2 => self.chance.below(LAST_HOLDING as usize + 1) as u32,
+            _ => self.sheet().wrapping_mul(3).wrapping_add(self.chance.below(3) as u32),
+        };
+        self.ask(Question::HoldingParts { holding });
+    }
+
+    /// A rising set of about so many holdings, by gaps, or of some or all products of sheets that follow one another or lie just so far
+    /// apart that a gap takes a byte more.
+    fn rising_holdings(&mut self, count: usize) -> Vec<u32> {
+        if self.chance.one_in(2) {
+            // A second product that is not had becomes the first.
+            let had = |number: u32| if paper::holding_parts(number).is_ok() { number } else { number - 1 };
+            let mut holdings: Vec<u32> = self.rising(count, LAST_HOLDING).into_iter().map(had).collect();
+            holdings.dedup();
+            return holdings;
+        }
+        let first = self.good_sheet();
+        let step = self.chance.of(&[1, 1, 1, 2, 42, 43, 44, 5_461, 5_462]);
+        let mut holdings = holdings_from(first, step, 2 * count);
+        if self.chance.one_in(2) {
+            holdings.retain(|_| self.chance.one_in(2));
+        }
+        holdings.truncate(count);
+        holdings
+    }
+
+    /// One fault or two, of a kind each, which may meet at one place.
+    fn put_faults_of_holdings(&mut self, holdings: &mut Vec<u32>) {
+        for _ in 0..1 + self.chance.below(2) {
+            let place = self.chance.below(holdings.len());
+            match self.chance.below(9) {
+                0 => holdings[place] = self.chance.of(&OF_HOLDINGS),
+                1 => holdings[place] = self.chance.of(&EXTREME_U32),
+                2 => holdings[place] = LAST_HOLDING + self.chance.below(2) as u32,
+                3 if place > 0 => holdings[place] = holdings[place - 1],
+                4 if place > 0 => holdings.swap(place, place - 1),
+                5 if place > 0 => holdings[place] = holdings[place - 1].wrapping_sub(1),
+                6 => holdings[place] = 3 * self.good_sheet() + 2,
+                7 => holdings.push(self.chance.of(&OF_HOLDINGS)),
+                _ => holdings[place] = holdings[place] / 3 * 3 + 2,
+            }
+        }
+    }
+
+    fn ask_of_holdings(&mut self, holdings: Vec<u32>) {
+        let room = self.room_to_write(self.division.holdings_length(&holdings));
+        self.ask(Question::HoldingsLength { holdings: holdings.clone() });
+        self.ask(Question::WriteHoldings { holdings, room });
+    }
+
+    fn about_holdings(&mut self) {
+        let count = self.count_of_set();
+        let mut holdings = self.rising_holdings(count);
+        if !holdings.is_empty() && self.chance.one_in(3) {
+            self.put_faults_of_holdings(&mut holdings);
+        }
+        self.ask_of_holdings(holdings);
+    }
+
+    /// All sets of up to so many numbers over a few, so that every kind of fault stands at every place, alone, beside others and before
+    /// others.
+    fn short_sets_of_holdings(&mut self, most: u32) {
+        let places: Vec<u8> = (0..OF_HOLDINGS.len() as u8).collect();
+        for set in texts(&places, most) {
+            let holdings = set.iter().map(|&place| OF_HOLDINGS[place as usize]).collect();
+            self.ask_of_holdings(holdings);
+        }
+    }
+
+    /// Sets about each length of a count and about the most holdings: within one scale, from scale 5 to 6, from 7 to 8, and with long gaps;
+    /// and the set whose list has the most bytes, with as many gaps of three bytes as there can be, and otherwise of two.
+    fn long_sets_of_holdings(&mut self) {
+        for count in [0, 1, 2, 3, 126, 127, 128, 129, 4_094, 4_095, 4_096, 4_097, 4_098, 8_192] {
+            for (first, step) in [(20_000, 1), (18_100, 1), (453_100, 43), (2_000_000, 1_450)] {
+                let holdings = holdings_from(first, step, count);
+                assert_eq!(holdings.len(), count);
+                self.ask_about_holdings(&holdings);
+            }
+        }
+        let steps = [16_384].into_iter().chain([16_386; 1_434]).chain([129; 2_661]);
+        let add = |sum: &mut u32, step: u32| {
+            *sum += step;
+            Some(*sum)
+        };
+        let longest: Vec<u32> = steps.scan(0, add).collect();
+        assert_eq!(self.division.holdings_length(&longest), Ok(9_629));
+        self.ask_about_holdings(&longest);
+    }
+
+    /// A good set, but perhaps for its count, in all kinds of room; with each kind of fault at either end and in the middle; and its list.
+    fn ask_about_holdings(&mut self, good: &[u32]) {
+        let needed = self.division.holdings_length(good).unwrap_or(2);
+        self.ask(Question::HoldingsLength { holdings: good.to_vec() });
+        for room in [0, needed - 1, needed, needed + 1, 10_000] {
+            self.ask(Question::WriteHoldings { holdings: good.to_vec(), room });
+        }
+        for place in BTreeSet::from([0, good.len() / 2, good.len().saturating_sub(1)]) {
+            let Some(&before) = good.get(place.saturating_sub(1)) else { continue };
+            for number in [before, before - 1, before / 3 * 3 + 2, good[place] / 3 * 3 + 2].into_iter().chain(OF_HOLDINGS) {
+                let mut holdings = good.to_vec();
+                holdings[place] = number;
+                self.ask_of_holdings(holdings);
+            }
+        }
+        if let Ok(list) = self.division.write_holdings(good, usize::MAX) {
+            self.ask_to_read_about(&list, good.len());
+        }
+    }
+
+    /// A list to both readers: the old one is to give 12 to every new list.
+    fn ask_to_read(&mut self, list: &[u8], room: usize) {
+        self.ask(Question::ReadHoldings { list: list.to_vec(), room });
+        self.ask(Question::ReadList { list: list.to_vec(), room });
+    }
+
+    /// A list of so many in all kinds of room, cut and with a byte behind it.
+    fn ask_to_read_about(&mut self, list: &[u8], count: usize) {
+        for room in [0, count.saturating_sub(1), count, count + 1, 5_000] {
+            self.ask_to_read(list, room);
+        }
+        let cut = self.chance.below(list.len());
+        for cut in [cut, list.len() - 1] {
+            self.ask_to_read(&list[..cut], count);
+        }
+        for byte in [0, 1, 127, 128, 255] {
+            self.ask_to_read(&[list, &[byte]].concat(), count);
+        }
+    }
+
+    /// First numbers about every border, as they are written, in more groups than they take and cut short, with no entry behind them, some,
+    /// as many as they count, and one less and one more.
+    fn first_numbers(&mut self) {
+        for first in FIRST_NUMBERS {
+            let count = (if first < NEW_LIST { first } else { first - NEW_LIST }).min(5_000) as usize;
+            let least = paper::groups(first);
+            for groups in least..=5 {
+                let head = in_groups(first, groups);
+                for cut in 0..groups {
+                    self.ask_to_read(&head[..cut], count);
+                }
+                for entries in BTreeSet::from([0, 1, 2, count.saturating_sub(1), count, count + 1]) {
+                    // All of them, in lists of both kinds: one to the first 1:5 000 sheet, or its number, and each other one to the next.
+                    let mut list = head.clone();
+                    if entries > 0 {
+                        list.extend(in_groups(ALL_HELD, 3));
+                        list.resize(head.len() + 3 + entries - 1, 0);
+                    }
+                    let rooms = if groups == least { vec![0, count.saturating_sub(1), count, MOST, 5_000] } else { vec![0, count] };
+                    for room in BTreeSet::from_iter(rooms) {
+                        self.ask_to_read(&list, room);
+                    }
+                }
+            }
+        }
+    }
+
+    /// Entries that lead to the ends of the scales, of the sheets and of the holdings, and beside them, in lists of both kinds: alone,
+    /// behind others and before another.
+    fn ends_of_lists(&mut self) {
+        let ends = SCALES.iter().flat_map(|facts| [facts.first, facts.first + facts.sheets]).collect::<BTreeSet<u32>>();
+        let near = ends.iter().flat_map(|end| [*end, 3 * end]).flat_map(|end| end.saturating_sub(4)..end + 4);
+        let far = [1 << 23, 1 << 24, 1 << 25, (1 << 28) - 2, (1 << 28) - 1];
+        for number in near.chain(far).collect::<BTreeSet<u32>>() {
+            for before in [vec![], vec![0], vec![number.saturating_sub(1)], vec![0, 1, number.saturating_sub(3)]] {
+                for behind in [vec![], vec![number + 1]] {
+                    let numbers = [before.clone(), vec![number], behind].concat();
+                    if numbers.windows(2).all(|two| two[0] < two[1]) {
+                        for kind in BOTH {
+                            self.ask_to_read(&kind.list_of(&numbers), numbers.len());
+                        }
+                    }
+                }
+            }
+        }
+    }
+
+    /// All beginnings of up to so many bytes over a few behind the first number of new lists, with room enough or not.
+    fn short_lists_of_holdings(&mut self, most: u32) {
+        const FEW: &[u8] = &[0, 1, 2, 127, 128, 129, 255];
+        for first in [&[0x80, 0x40][..], &[0x81, 0x40], &[0x82, 0x40], &[0x83, 0x40], &[0x82, 0x40, 0xFA, 0xA9, 0x03]] {
+            for entries in texts(FEW, most) {
+                let room = if self.chance.one_in(4) { self.chance.below(4) } else { 5 };
+                self.ask_to_read(&[first, &entries].concat(), room);
+            }
+        }
+    }
+
+    /// Each byte of some short lists of both kinds changed to every other.
+    fn each_byte(&mut self) {
+        let sets: [&[u32]; 6] = [&[], &[1], &[0, 344, LAST_SHEET], &[0, 1_033, LAST_HOLDING - 1], &[ALL_HELD, ALL_HELD + 2], &[127, 256]];
+        for (kind, set) in BOTH.into_iter().flat_map(|kind| sets.map(|set| (kind, set))) {
+            let list = kind.list_of(set);
+            for (place, byte) in (0..list.len()).flat_map(|place| (0..=255).map(move |byte| (place, byte))) {
+                let mut list = list.clone();
+                list[place] = byte;
+                self.ask_to_read(&list, set.len());
+            }
+        }
+    }
+
+    /// So many lists of both kinds: every cut of each, and each byte of it changed, with room for all that it has.
+    fn each_cut(&mut self, times: usize) {
+        for _ in 0..times {
+            for kind in BOTH {
+                let count = if self.chance.one_in(50) { 126 + self.chance.below(5) } else { self.chance.below(9) };
+                let list = self.good_list(kind, count);
+                let (placed, _) = self.division.read_holdings(&list, MOST);
+                self.ask_to_read_about(&list, placed.len());
+                for place in 0..list.len() {
+                    self.ask_to_read(&list[..place], placed.len());
+                    for byte in [list[place] ^ 128, list[place].wrapping_add(1), self.chance.next() as u8] {
+                        let mut list = list.clone();
+                        list[place] = byte;
+                        self.ask_to_read(&list, placed.len());
+                    }
+                }
+            }
+        }
+    }
+
+    fn about_both_readers(&mut self) {
+        let kind = self.chance.of(&[Kind::Old, Kind::New, Kind::New]);
+        let list = self.list(kind);
+        let room = self.room_to_read(self.division.read_holdings(&list, 0));
+        self.ask_to_read(&list, room);
     }
 }

@@ -83,7 +83,7 @@ static void tell(const char *path, size_t number, uint32_t status, uint64_t plac
 }
 
 /* The accepted lines of a file, and how many were refused. Their bytes stay where they are: a part is told by its places. */
-static struct catalogue catalogue_of(const char *path)
+static inline struct catalogue catalogue_of(const char *path)
 {
     size_t length, size = 1024, number = 0;
     const uint8_t *at = bytes_of(path, &length), *end = at + length;
@@ -110,7 +110,7 @@ static struct catalogue catalogue_of(const char *path)
     return all;
 }
 
-static void print_part(const uint8_t *bytes, uint64_t start, uint64_t end)
+static inline void print_part(const uint8_t *bytes, uint64_t start, uint64_t end)
 {
     putchar('\t');
     fwrite(bytes + start, 1, end - start, stdout);

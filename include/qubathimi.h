@@ -1,5 +1,5 @@
 /* Qubathimi for C and for any language that calls C: map sheets of nine scales, their frames, labels, catalogue lines, official names,
- * local numbers and shelf lists.
+ * local numbers, holdings and shelf lists.
  *
  * `rt staticlib qubathimi_c` proves the functions and writes target/staticlib/libqubathimi_c.a, for x86-64 Linux; link it with a program
  * that includes this header. Of the C library it calls memcpy and memset and nothing else. It allocates nothing, needs no setting up and
@@ -8,15 +8,15 @@
  *
  * The convention. Seven functions cannot refuse and have their answer as the result: qubathimi_width, _height, _rows, _columns, _first,
  * _last and _scale_of; and so has qubathimi_same_name, which is true or false. For all others:
- *  - The result is 0 where the function answers, and otherwise the number of the refusal, 1 to 23 (enum qubathimi_refusal). Where several
+ *  - The result is 0 where the function answers, and otherwise the number of the refusal, 1 to 24 (enum qubathimi_refusal). Where several
  *    are due, the first in the order given at the function is the one.
  *  - An answer that is one number goes to *value, and so does the count of what is laid into lent room. *value is written in every
  *    case: of a refusal it is what the refusal carries, the room needed with 10, a place in the label with 4, 5, 19, 20 and 21, and
  *    otherwise 0. A place counts bytes from 0, so there a 0 is the first byte. A sheet in *value always fits the uint32_t that functions
  *    take.
  *  - An answer of several numbers goes to a pointer for each. A refusal leaves what they point to as it was.
- *  - Room is lent as a pointer and the number of places (not bytes) there. A refusal writes nothing into it, save the sheets that
- *    qubathimi_read_list has placed; places beyond an answer keep their values.
+ *  - Room is lent as a pointer and the number of places (not bytes) there. A refusal writes nothing into it, save what
+ *    qubathimi_read_list and qubathimi_read_holdings have placed; places beyond an answer keep their values.
  *  - No pointer is null, not even with a length of 0, and not for an output that is not wanted: give it a place of its own. What a call
  *    writes to overlaps nothing else that the call is given.
  *  - Any numbers and any bytes may be asked.
@@ -39,8 +39,10 @@ extern "C" {
 #define QUBATHIMI_LAST_SHEET 7953173
 /* the bytes of the longest label */
 #define QUBATHIMI_LONGEST_LABEL 16
-/* the most sheets that a cover or a list has */
+/* the most sheets that a cover has, and the most sheets or holdings of a list */
 #define QUBATHIMI_MOST_SHEETS 4096
+/* the last holding: the last sheet with its first product */
+#define QUBATHIMI_LAST_HOLDING 23859520
 /* the most sheets that a municipality has */
 #define QUBATHIMI_MOST_IN_MUNICIPALITY 400
 /* the places of a block of neighbours, and the mark of no sheet: at a place off the grid, and for a name that no sheet has */
@@ -59,20 +61,20 @@ extern "C" {
 enum qubathimi_refusal {
     QUBATHIMI_POINT_OUTSIDE = 1,   /* point outside the area */
     QUBATHIMI_NO_SCALE = 2,        /* scale not 1 to 9 */
-    QUBATHIMI_NO_SHEET = 3,        /* sheet number above 7 953 173 */
+    QUBATHIMI_NO_SHEET = 3,        /* sheet number above 7 953 173, or holding above 23 859 521 */
     QUBATHIMI_LABEL_LENGTH = 4,    /* label empty, at 0, or over 16 bytes, at 16; carries that place */
     QUBATHIMI_FIELD_RANGE = 5,     /* a label field out of range; carries where the first such field begins */
     QUBATHIMI_NO_SUCH = 6,         /* no such parent or child, step or place off the grid, offset across scales, sheet or local numbers that
                                       a municipality does not have */
     QUBATHIMI_WINDOW_ORDER = 7,    /* window with east not above west or north not above south */
     QUBATHIMI_WINDOW_OUTSIDE = 8,  /* window reaching outside the area */
-    QUBATHIMI_TOO_MANY = 9,        /* more than 4 096 sheets */
+    QUBATHIMI_TOO_MANY = 9,        /* more than 4 096 sheets or holdings */
     QUBATHIMI_ROOM = 10,           /* lent room too short; carries the room needed */
     QUBATHIMI_ENDS_EARLY = 11,     /* list ends early */
-    QUBATHIMI_BAD_NUMBER = 12,     /* list number badly written, or count over 4 096 */
-    QUBATHIMI_PAST_LAST = 13,      /* list runs past the last sheet */
+    QUBATHIMI_BAD_NUMBER = 12,     /* list number badly written, or a first number that tells no count of 0 to 4 096 */
+    QUBATHIMI_PAST_LAST = 13,      /* list runs past the last sheet or holding */
     QUBATHIMI_MORE_BYTES = 14,     /* bytes after the list's end */
-    QUBATHIMI_NOT_RISING = 15,     /* sheets to be written, or of a municipality, not strictly rising */
+    QUBATHIMI_NOT_RISING = 15,     /* sheets or holdings to be written, or sheets of a municipality, not strictly rising */
     QUBATHIMI_NAME_FORM = 16,      /* name badly formed */
     QUBATHIMI_NAME_SCALE = 17,     /* name at scale 7, 8 or 9 */
     QUBATHIMI_NO_NUMBER = 18,      /* a value in metres that is infinite or no number */
@@ -80,7 +82,8 @@ enum qubathimi_refusal {
     QUBATHIMI_FIELD_FORM = 20,     /* an empty label field, or one with a leading zero; carries where the first such field begins */
     QUBATHIMI_NAMES_NO_SCALE = 21, /* a label's first number or its count of fields unknown; carries 0 */
     QUBATHIMI_NOT_250_000 = 22,    /* not a 1:250 000 sheet */
-    QUBATHIMI_NO_MUNICIPALITY = 23 /* list of a municipality empty or above 400 sheets, or with a sheet that is not 1:2 000 */
+    QUBATHIMI_NO_MUNICIPALITY = 23, /* list of a municipality empty or above 400 sheets, or with a sheet that is not 1:2 000 */
+    QUBATHIMI_NO_PRODUCT = 24      /* a product that the scale does not have: above 2, or 2 at another scale than 6 and 7 */
 };
 
 /* ---- Scales. Of a number that is no scale, not 1 to 9, each of these is 0. ---- */
@@ -233,18 +236,42 @@ uint32_t qubathimi_sheet_to_local(const uint32_t *municipality, size_t count, ui
 
 /* ---- Shelf lists ---- */
 
-/* How many bytes the list of a set has. Refusals: 9; then of the first faulty place 3 or 15, 3 before 15. */
+/* How many bytes the list of a set of sheets has. Refusals: 9; then of the first faulty place 3 or 15, 3 before 15. */
 uint32_t qubathimi_list_length(const uint32_t *sheets, size_t count, uint64_t *value);
 
 /* The list of a set of strictly rising sheets, laid into `room`; the empty set is one byte, 0. *value is the count of its bytes.
  * Refusals: 9; then of the first faulty place 3 or 15, 3 before 15; 10. */
 uint32_t qubathimi_write_list(const uint32_t *sheets, size_t count, uint8_t *room, size_t length, uint64_t *value);
 
-/* The set of a list, laid into `room` from its first place on. *placed is written in every case: how many sheets were placed, also with
- * 11 to 14, and they stay. *value is that count too where the list is read whole. Refusals: of the count 11 or 12; 12 for a count over
- * 4 096; 10 with the count; of each entry 11, 12 or 13; 14. */
+/* The set of a list of sheets, laid into `room` from its first place on. *placed is written in every case: how many sheets were placed,
+ * also with 11 to 14, and they stay. *value is that count too where the list is read whole. Refusals: of the count 11 or 12; 12 for a
+ * count over 4 096; 10 with the count; of each entry 11, 12 or 13; 14. */
 uint32_t qubathimi_read_list(const uint8_t *list, size_t length, uint32_t *room, size_t room_length, uint64_t *placed,
                              uint64_t *value);
+
+/* ---- Holdings: a sheet with a product. Product 0 leaves it unstated, 1 is the first product of the scale, and 2 the second, which only
+ * scales 6 and 7 have: at 1:5 000 HOK5 and DOF5, at 1:2 000 KP2000 and DOF2. Their number is three times the sheet number plus the
+ * product. ---- */
+
+/* The number of a sheet with a product. Refusals: 3; 24. */
+uint32_t qubathimi_holding(uint32_t sheet, uint32_t product, uint64_t *value);
+
+/* The sheet and the product of a holding. Refusals: 3 above 23 859 521; 24. */
+uint32_t qubathimi_holding_parts(uint32_t holding, uint32_t *sheet, uint32_t *product);
+
+/* How many bytes the list of a set of holdings has. Refusals: 9; then of the first faulty place 3, 24 or 15, in that order. */
+uint32_t qubathimi_holdings_length(const uint32_t *holdings, size_t count, uint64_t *value);
+
+/* The list of a set of strictly rising holdings, laid into `room`; the empty set is two bytes, 80 40. *value is the count of its bytes.
+ * qubathimi_read_list refuses such a list with 12. Refusals: 9; then of the first faulty place 3, 24 or 15, in that order; 10. */
+uint32_t qubathimi_write_holdings(const uint32_t *holdings, size_t count, uint8_t *room, size_t length, uint64_t *value);
+
+/* The set of a list of either kind, laid into `room` as holdings: a list of sheets gives each with product 0. *placed and *value are as
+ * in qubathimi_read_list. Refusals: of the first number 11 or 12; 12 where it is neither 0 to 4 096, a list of sheets, nor 8 192 to
+ * 12 288, one of holdings; 10 with the count, without the 8 192; of each entry 11, 12, 13 above the last sheet in the one and above
+ * 23 859 521 in the other, or 24; 14. */
+uint32_t qubathimi_read_holdings(const uint8_t *list, size_t length, uint32_t *room, size_t room_length, uint64_t *placed,
+                                 uint64_t *value);
 
 #ifdef __cplusplus
 }

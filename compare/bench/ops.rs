@@ -11,7 +11,7 @@ use std::time::Instant;
 mod numbers;
 mod sheets;
 use numbers::Numbers;
-use sheets::{LAST_SHEET, LONGEST_LABEL, MOST_OF_MUNICIPALITY, MOST_SHEETS, SCALES};
+use sheets::{LAST_HOLDING, LAST_SHEET, LONGEST_LABEL, MOST_OF_MUNICIPALITY, MOST_SHEETS, SCALES};
 
 const SEED: u64 = 1;
 const LABELS: usize = 65_536;
@@ -33,6 +33,8 @@ extern "C" {
     fn qubathimi_same_name(a: *const u8, a_length: usize, b: *const u8, b_length: usize) -> bool;
     fn qubathimi_write_list(sheets: *const u32, count: usize, room: *mut u8, length: usize, value: &mut u64) -> u32;
     fn qubathimi_read_list(list: *const u8, length: usize, room: *mut u32, room_length: usize, placed: &mut u64, value: &mut u64) -> u32;
+    fn qubathimi_write_holdings(holdings: *const u32, count: usize, room: *mut u8, length: usize, value: &mut u64) -> u32;
+    fn qubathimi_read_holdings(list: *const u8, length: usize, room: *mut u32, places: usize, placed: &mut u64, value: &mut u64) -> u32;
     fn qubathimi_local_to_sheet(municipality: *const u32, count: usize, n: u32, a: u32, b: u32, value: &mut u64) -> u32;
     fn qubathimi_sheet_to_local(municipality: *const u32, count: usize, sheet: u32, n: &mut u32, a: &mut u32, b: &mut u32) -> u32;
 }
@@ -130,18 +132,21 @@ fn names() -> Vec<(String, String)> {
     (0..NAMES).map(any_pair).collect()
 }
 
-/// As many sheets as a list may have, in three steps of size: most follow closely, some lie further on, a few far.
-fn large_set(numbers: &mut Numbers) -> Vec<u32> {
+/// As many numbers as a list may have, in three steps of size: most follow closely, some lie further on, a few far.
+fn large_set(last: u32, fine: fn(u32) -> bool, numbers: &mut Numbers) -> Vec<u32> {
     let mut next = numbers.draw(0, 1_000) as u32;
     let mut set = Vec::new();
     for left in (0..MOST_SHEETS as u32).rev() {
+        while !fine(next) {
+            next += 1;
+        }
         set.push(next);
         let gap = match numbers.draw(0, 99) {
             0..=59 => numbers.draw(0, 127),
             60..=97 => numbers.draw(128, 3_000),
             _ => numbers.draw(16_384, 40_000),
         };
-        next = (next + 1 + gap as u32).min(LAST_SHEET + 1 - left);
+        next = (next + 1 + gap as u32).min(last + 1 - left);
     }
     set
 }
@@ -149,6 +154,23 @@ fn large_set(numbers: &mut Numbers) -> Vec<u32> {
 /// At most 16 sheets of any scale.
 fn small_set(numbers: &mut Numbers) -> Vec<u32> {
     let mut set: Vec<u32> = (0..numbers.draw(0, 16)).map(|_| any_sheet(numbers)).collect();
+    set.sort_unstable();
+    set.dedup();
+    set
+}
+
+fn is_holding(number: u32) -> bool {
+    sheets::write_holdings(&[number], &mut [0; 6]).is_ok()
+}
+
+/// At most 16 holdings of any scale. In two of three the product is stated; where the scale has no second one, it is the first.
+fn small_holdings(numbers: &mut Numbers) -> Vec<u32> {
+    let count = numbers.draw(0, 16);
+    let any_holding = |_| {
+        let number = 3 * any_sheet(numbers) + numbers.draw(0, 2) as u32;
+        if is_holding(number) { number } else { number - 1 }
+    };
+    let mut set: Vec<u32> = (0..count).map(any_holding).collect();
     set.sort_unstable();
     set.dedup();
     set
@@ -302,17 +324,40 @@ fn our_write_list(set: &[u32], room: &mut [u8]) -> (u32, u64) {
     (status, value)
 }
 
+fn told_placed((answer, placed): sheets::Read) -> (u32, u64) {
+    (answer.map_or_else(|(why, _)| why, |()| 0), placed as u64)
+}
+
 #[inline(never)]
 fn rust_read_list(list: &[u8], room: &mut [u32]) -> (u32, u64) {
-    match sheets::read_list(list, room) {
-        (Ok(()), placed) => (0, placed as u64),
-        (Err((why, _)), placed) => (why, placed as u64),
-    }
+    told_placed(sheets::read_list(list, room))
 }
 
 fn our_read_list(list: &[u8], room: &mut [u32]) -> (u32, u64) {
     let (mut placed, mut value) = (0, 0);
     let status = unsafe { qubathimi_read_list(list.as_ptr(), list.len(), room.as_mut_ptr(), room.len(), &mut placed, &mut value) };
+    (status, placed)
+}
+
+#[inline(never)]
+fn rust_write_holdings(set: &[u32], room: &mut [u8]) -> (u32, u64) {
+    told(sheets::write_holdings(set, room))
+}
+
+fn our_write_holdings(set: &[u32], room: &mut [u8]) -> (u32, u64) {
+    let mut value = 0;
+    let status = unsafe { qubathimi_write_holdings(set.as_ptr(), set.len(), room.as_mut_ptr(), room.len(), &mut value) };
+    (status, value)
+}
+
+#[inline(never)]
+fn rust_read_holdings(list: &[u8], room: &mut [u32]) -> (u32, u64) {
+    told_placed(sheets::read_holdings(list, room))
+}
+
+fn our_read_holdings(list: &[u8], room: &mut [u32]) -> (u32, u64) {
+    let (mut placed, mut value) = (0, 0);
+    let status = unsafe { qubathimi_read_holdings(list.as_ptr(), list.len(), room.as_mut_ptr(), room.len(), &mut placed, &mut value) };
     (status, placed)
 }
 
@@ -418,10 +463,10 @@ impl Race {
 }
 
 /// The lists of sets, and of every tenth set one that is cut short.
-fn lists(sets: &[Vec<u32>], numbers: &mut Numbers) -> Vec<Vec<u8>> {
+fn lists(sets: &[Vec<u32>], write: fn(&[u32], &mut [u8]) -> sheets::Written, numbers: &mut Numbers) -> Vec<Vec<u8>> {
     let mut room = vec![0; LONGEST_LIST];
     let mut list = |(i, set): (usize, &Vec<u32>)| {
-        let long = sheets::write_list(set, &mut room).unwrap();
+        let long = write(set, &mut room).unwrap();
         let kept = if i % 10 == 9 { numbers.draw(0, long as u64) as usize } else { long };
         room[..kept].to_vec()
     };
@@ -453,12 +498,26 @@ fn main() {
 
     both.race("name comparing", &names(), 1, 0, |q, _: &mut [u8]| our_same_name(q), |q, _| rust_same_name(q));
 
-    let large: Vec<Vec<u32>> = (0..LARGE_SETS).map(|_| large_set(numbers)).collect();
+    let large: Vec<Vec<u32>> = (0..LARGE_SETS).map(|_| large_set(LAST_SHEET, |_| true, numbers)).collect();
     let small: Vec<Vec<u32>> = (0..SMALL_SETS).map(|_| small_set(numbers)).collect();
     for (size, sets, times) in [("4 096 sheets", &large, 8), ("0 to 16 sheets", &small, 16)] {
-        let lists = lists(sets, numbers);
+        let lists = lists(sets, sheets::write_list, numbers);
         both.race(&format!("list reading, {size}"), &lists, times, MOST_SHEETS, |q, r| our_read_list(q, r), |q, r| rust_read_list(q, r));
         both.race(&format!("list writing, {size}"), sets, times, LONGEST_LIST, |q, r| our_write_list(q, r), |q, r| rust_write_list(q, r));
+        let (ours, rust) = (our_read_holdings, rust_read_holdings);
+        both.race(&format!("old list read as holdings, {size}"), &lists, times, MOST_SHEETS, |q, r| ours(q, r), |q, r| rust(q, r));
+    }
+
+    // Numbers of their own, as for points in metres.
+    let numbers = &mut Numbers(SEED);
+    let large: Vec<Vec<u32>> = (0..LARGE_SETS).map(|_| large_set(LAST_HOLDING, is_holding, numbers)).collect();
+    let small: Vec<Vec<u32>> = (0..SMALL_SETS).map(|_| small_holdings(numbers)).collect();
+    for (size, sets, times) in [("4 096 holdings", &large, 8), ("0 to 16 holdings", &small, 16)] {
+        let lists = lists(sets, sheets::write_holdings, numbers);
+        let (ours, rust) = (our_read_holdings, rust_read_holdings);
+        both.race(&format!("holdings reading, {size}"), &lists, times, MOST_SHEETS, |q, r| ours(q, r), |q, r| rust(q, r));
+        let (ours, rust) = (our_write_holdings, rust_write_holdings);
+        both.race(&format!("holdings writing, {size}"), sets, times, LONGEST_LIST, |q, r| ours(q, r), |q, r| rust(q, r));
     }
 
     // Numbers of their own, as for points in metres.

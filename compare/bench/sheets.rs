@@ -1,4 +1,4 @@
-//! The definition in plain Rust, for its time alone: labels, points, also in metres, names, local numbers and shelf lists.
+//! The definition in plain Rust, for its time alone: labels, points, also in metres, names, local numbers and shelf lists of both kinds.
 //!
 //! Written as a careful Rust programmer would write it: one table, one pass over the bytes, no allocation, and a second pass only for the
 //! place at which a label is at fault, and for names of which not all bytes are the same. A municipality is not sorted: what its list's
@@ -9,6 +9,9 @@
 use std::ops::Range;
 
 pub const LAST_SHEET: u32 = 7_953_173;
+pub const LAST_HOLDING: u32 = 23_859_521;
+/// What the first number of a new list has beside the count.
+const NEW_LIST: u32 = 8_192;
 pub const MOST_SHEETS: usize = 4_096;
 pub const MOST_OF_MUNICIPALITY: usize = 400;
 pub const LONGEST_LABEL: usize = 16;
@@ -439,33 +442,60 @@ fn put_groups(mut n: u32, room: &mut [u8], mut at: usize) -> usize {
     at + 1
 }
 
-pub fn write_list(sheets: &[u32], room: &mut [u8]) -> Result<usize, (u32, usize)> {
-    if sheets.len() > MOST_SHEETS {
+/// A number that is at most the last one; or the refusal.
+#[inline(always)]
+fn up_to(last: u32, number: u32, why: u32) -> Result<u32, u32> {
+    if number > last { Err(why) } else { Ok(number) }
+}
+
+/// The first sheet of 1:5 000. From there up to 1:1 000 there are two products, and elsewhere one.
+const FROM_5_000: u32 = 18_174;
+
+/// A holding; or 24 where it has a second product that the scale does not have.
+#[inline(always)]
+fn had(holding: u32) -> Result<u32, u32> {
+    if holding % 3 == 2 && !(3 * FROM_5_000..3 * FROM_1_000).contains(&holding) { Err(24) } else { Ok(holding) }
+}
+
+/// The length; or the refusal, and the room needed.
+pub type Written = Result<usize, (u32, usize)>;
+
+/// The list that begins with the count and so much more, of numbers that pass.
+#[inline(always)]
+fn write_numbers(numbers: &[u32], more: u32, room: &mut [u8], pass: impl Fn(u32) -> Result<u32, u32>) -> Written {
+    if numbers.len() > MOST_SHEETS {
         return Err((9, 0));
     }
-    let mut long = groups(sheets.len() as u32);
+    let first = more + numbers.len() as u32;
+    let mut long = groups(first);
     let mut least = 0;
-    for &sheet in sheets {
-        if sheet > LAST_SHEET {
-            return Err((3, 0));
-        }
-        if sheet < least {
+    for &number in numbers {
+        pass(number).map_err(|why| (why, 0))?;
+        if number < least {
             return Err((15, 0));
         }
-        long += groups(sheet - least);
-        least = sheet + 1;
+        long += groups(number - least);
+        least = number + 1;
     }
     if room.len() < long {
         return Err((10, long));
     }
     let room = &mut room[..long];
-    let mut at = put_groups(sheets.len() as u32, room, 0);
+    let mut at = put_groups(first, room, 0);
     least = 0;
-    for &sheet in sheets {
-        at = put_groups(sheet - least, room, at);
-        least = sheet + 1;
+    for &number in numbers {
+        at = put_groups(number - least, room, at);
+        least = number + 1;
     }
     Ok(long)
+}
+
+pub fn write_list(sheets: &[u32], room: &mut [u8]) -> Written {
+    write_numbers(sheets, 0, room, |sheet| up_to(LAST_SHEET, sheet, 3))
+}
+
+pub fn write_holdings(holdings: &[u32], room: &mut [u8]) -> Written {
+    write_numbers(holdings, NEW_LIST, room, |holding| up_to(LAST_HOLDING, holding, 3).and_then(had))
 }
 
 /// The number at a place, and the place behind it.
@@ -485,35 +515,57 @@ fn next_number(list: &[u8], mut at: usize) -> Result<(u32, usize), u32> {
     Err(11)
 }
 
-/// The refusal and the room needed, or none; and how many sheets were placed.
-pub fn read_list(list: &[u8], room: &mut [u32]) -> (Result<(), (u32, usize)>, usize) {
-    let (count, mut at) = match next_number(list, 0) {
-        Ok((count, at)) => (count as usize, at),
-        Err(why) => return (Err((why, 0)), 0),
-    };
-    if count > MOST_SHEETS {
-        return (Err((12, 0)), 0);
-    }
+/// The refusal and the room needed, or none; and how many were placed.
+pub type Read = (Result<(), (u32, usize)>, usize);
+
+/// The entries from a place on, each number placed as it passes.
+#[inline(always)]
+fn read_numbers(list: &[u8], mut at: usize, count: usize, room: &mut [u32], pass: impl Fn(u32) -> Result<u32, u32>) -> Read {
     if room.len() < count {
         return (Err((10, count)), 0);
     }
     let mut least = 0;
     for (placed, place) in room[..count].iter_mut().enumerate() {
-        let sheet = match next_number(list, at) {
+        let number = match next_number(list, at) {
             Ok((gap, end)) => {
                 at = end;
                 least + gap
             }
             Err(why) => return (Err((why, 0)), placed),
         };
-        if sheet > LAST_SHEET {
-            return (Err((13, 0)), placed);
+        match pass(number) {
+            Ok(own) => *place = own,
+            Err(why) => return (Err((why, 0)), placed),
         }
-        *place = sheet;
-        least = sheet + 1;
+        least = number + 1;
     }
     if at < list.len() {
         return (Err((14, 0)), count);
     }
     (Ok(()), count)
+}
+
+pub fn read_list(list: &[u8], room: &mut [u32]) -> Read {
+    match next_number(list, 0) {
+        Ok((count, _)) if count > MOST_SHEETS as u32 => (Err((12, 0)), 0),
+        Ok((count, at)) => read_numbers(list, at, count as usize, room, |sheet| up_to(LAST_SHEET, sheet, 13)),
+        Err(why) => (Err((why, 0)), 0),
+    }
+}
+
+/// Lists of both kinds.
+pub fn read_holdings(list: &[u8], room: &mut [u32]) -> Read {
+    const MOST: u32 = MOST_SHEETS as u32;
+    const MOST_NEW: u32 = NEW_LIST + MOST;
+    match next_number(list, 0) {
+        Ok((first @ 0..=MOST, at)) => {
+            read_numbers(list, at, first as usize, room, |sheet| up_to(LAST_SHEET, sheet, 13).map(|sheet| 3 * sheet))
+        }
+        Ok((first @ NEW_LIST..=MOST_NEW, at)) => {
+            let count = (first - NEW_LIST) as usize;
+            read_numbers(list, at, count, room, |holding| up_to(LAST_HOLDING, holding, 13).and_then(had))
+        }
+        Ok(_) => (Err((12, 0)), 0),
+        Err(why) => (Err((why, 0)), 0),
+    }
 }

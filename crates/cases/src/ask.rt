@@ -1,4 +1,5 @@
 // The lines of the input, and the kinds of question.
+use crate::held;
 use crate::known;
 use crate::labels;
 use crate::lists;
@@ -73,6 +74,20 @@ fn requested(kind: u8, s: &[u8]) {
         b'y' => known::yours(s),
         b'L' => locals::local(s),
         b'M' => locals::municipality(s),
+        _ => capital(kind, s),
+    }
+}
+
+// Of holdings.
+fn capital(kind: u8, s: &[u8]) {
+    match kind {
+        b'T' => held::together(s),
+        b'A' => held::apart(s),
+        b'P' => lists::pack(s),
+        b'R' => lists::rule(s),
+        b'B' => lists::bytes(s),
+        b'H' => lists::heads(s),
+        b'V' => lists::vary(s),
         _ => none(),
     }
 }

@@ -2,6 +2,7 @@
 // and the answer. The input is `stdin`, and what must come out is `stdout`: compare/cases.rs writes the answers
 // from the definition alone, and says what a question looks like.
 mod ask;
+mod held;
 mod known;
 mod labels;
 mod lists;

@@ -11,7 +11,7 @@ pub(crate) const MARK: u8 = 238;
 pub(crate) const NO_SHEET: u32 = 4294967295;
 
 // More bytes than any list has.
-pub(crate) const BYTES: usize = 9000;
+pub(crate) const BYTES: usize = 10000;
 
 // More sheets than any list has.
 pub(crate) const SHEETS: usize = 4200;

@@ -9,21 +9,24 @@ use lib.Ieee.{Float, nan, inf, fin}
 use Rattle.refusal.specs.Paper.{Paper, answer, refused, refuse_at_unless_, refuse_unless_, _>>_, _>>=_, roomFor, laid}
 use Rattle.refusal.specs.Numbers.{isIn, carries}
 use Rattle.rising.specs.Rising.{risingFrom}
-use Rattle.division.specs.Words.{_≤?_, _<?_, _=?_}
+use Rattle.division.specs.Words.{_≤?_, _<?_, _=?_, between}
 use Rattle.division.specs.Table.{isScale, made}
 use Rattle.division.specs.declared.Edges.{Edges}
 use Rattle.division.specs.Grid.{area, owns, within}
-use Rattle.division.specs.Sheet.{scaleOf, sheetAt}
+use Rattle.division.specs.Sheet.{isSheet, scaleOf, sheetAt}
 use Rattle.division.specs.Cover.{sheetsIn, isWindow, coverable}
 use Rattle.frame.specs.Exact.{exactly, downward, upward}
 use Rattle.frame.specs.Metres.{sheetAtMetres}
 use Rattle.label.specs.Text.{every, firstNot, split}
 use Rattle.label.specs.Label.{isLabelByte, isField, inRange, firstOut, scaleWith, startOf, formed, numbersIn, sheetNamed, readLabel}
 use Rattle.catalogue.specs.Line.{labelIn, hasName, nameIn, isName, withName, readLine}
+use Rattle.holding.specs.Holding.{hasProduct, sheetIn, productIn, judge}
+use Rattle.shelf.specs.declared.kind.Kind as code
+use Rattle.shelf.specs.declared.kind.Kind.the-variants.{Sheets, Holdings}
 use Rattle.shelf.specs.Number.{highs, readNumber}
-use Rattle.shelf.specs.Kind.{Kind}
+use Rattle.shelf.specs.Kind.{Kind, kindOf}
 use Rattle.shelf.specs.Writing.{setIn}
-use Rattle.shelf.specs.Reading.{Reading, _thenRead_, entriesIn}
+use Rattle.shelf.specs.Reading.{Reading, _thenRead_, entriesIn, behindIn, readIn}
 use Rattle.demands.specs.Refusals.{Gives, answers, refuses}
 
 -- ---- the lines of a cascade
@@ -133,3 +136,22 @@ module _ {listed : List ℕ} where
       read-gives _ (number-gives h i bytes) λ gap.
       read-gives _ (g (least + gap .value)) λ fine.
       entries-give kind g h i j more (least + gap .value + 1) (gap .rest)
+
+  -- of a list of either kind: the count that its first number tells, a number of it, and its reading
+  pub count-gives : (kind : code.Kind) (first : ℕ) → isIn listed 12 ≡ true → Gives listed (kindOf kind .count first)
+  count-gives Sheets first i = line-gives 12 (first ≤? 4_096) i answers
+  count-gives Holdings first i = line-gives 12 (between 8_192 12_288 first) i answers
+
+  pub judge-gives : (kind : code.Kind) (past n : ℕ) → isIn listed past ≡ true → isIn listed 24 ≡ true → Gives listed (kindOf kind .judge past n)
+  unfolding judge
+  judge-gives Sheets past n i j = test-gives past (isSheet n) i
+  judge-gives Holdings past n i j = line-gives past (n ≤? 23_859_521) i (test-gives 24 (hasProduct (scaleOf (sheetIn n)) (productIn n)) j)
+
+  pub reading-gives : (kind : code.Kind) → isIn listed 10 ≡ true → isIn listed 11 ≡ true → isIn listed 12 ≡ true → isIn listed 14 ≡ true → ((n : ℕ) → Gives listed (kindOf kind .judge 13 n))
+      → (bytes : List ℕ) (room : ℕ) → Gives listed (readIn (kindOf kind) bytes room .ended)
+  unfolding readIn behindIn
+  reading-gives kind h i j k g bytes room =
+      read-gives _ (number-gives i j bytes) λ first.
+      read-gives _ (count-gives kind (first .value) j) λ count.
+      read-gives _ (room-gives count room h) λ fit.
+      entries-give (kindOf kind) g i j k count 0 (first .rest)

@@ -27,11 +27,16 @@ use Rattle.catalogue.proofs.LineTheorems.{label-refuses}
 use Rattle.official.specs.Lookup.{nameOf, is250000, writeName, nameTold}
 use Rattle.official.specs.Verdict.{checkAt, checkLine}
 use Rattle.official.proofs.VerdictTheorems.{place-repeated}
-use Rattle.shelf.specs.Kind.{ofSheets}
-use Rattle.shelf.specs.Writing.{listBytes, writeIn, lengthIn}
-use Rattle.shelf.specs.Reading.{behindIn, readIn}
+use Rattle.holding.specs.declared.Task.{Task}
+use Rattle.holding.specs.declared.Task.the-variants.{Writing, Reading}
+use Rattle.holding.specs.Holding.{hasProduct, past, holding, partsOf}
+use Rattle.shelf.specs.declared.kind.Kind as code
+use Rattle.shelf.specs.declared.kind.Kind.the-variants.{Sheets, Holdings}
+use Rattle.shelf.specs.Kind.{ofSheets, ofHoldings, kindOf}
+use Rattle.shelf.specs.Writing.{listBytes, bytesIn, writeIn, lengthIn}
+use Rattle.shelf.proofs.HoldingsTheorems.{read-as}
 use Rattle.demands.specs.Refusals.{Gives, answers, RefusalsNumbered, PlacesTold}
-use Rattle.demands.proofs.GivesLaws.{test-gives, then-gives, line-gives, found-gives, answered-gives, read-gives, metres-give, room-gives, laid-gives, label-gives, line-of-gives, cover-gives, rising-gives, set-gives, number-gives, entries-give}
+use Rattle.demands.proofs.GivesLaws.{test-gives, then-gives, line-gives, found-gives, answered-gives, metres-give, laid-gives, label-gives, line-of-gives, cover-gives, rising-gives, set-gives, count-gives, judge-gives, reading-gives}
 
 name-gives : (n room : ℕ) → Gives (3 ∷ 22 ∷ 10 ∷ []) (writeName n room)
 unfolding writeName
@@ -78,8 +83,12 @@ module _ (sheets : List ℕ) where
       by false true = found-gives (parent-gives n) λ up. place-gives up λ i. answers
       by false false = found-gives (parent-gives n) λ up. found-gives (parent-gives up) λ top. place-gives top λ i. answers
 
+judged-gives : (kind : code.Kind) (task : Task) (number : ℕ) → Gives (past task ∷ 24 ∷ []) (kindOf kind .judge (past task) number)
+judged-gives kind Writing number = judge-gives kind 3 number refl refl
+judged-gives kind Reading number = judge-gives kind 13 number refl refl
+
 pub refusals-numbered : RefusalsNumbered
-unfolding sheetAt locate sheetOn cornersOf frameOf frameAtMetres parent child step walk offset cover blockIn writeLabel labelLength nameTold checkLine checkAt writeIn lengthIn readIn behindIn localToSheet sheetToLocal
+unfolding sheetAt locate sheetOn cornersOf frameOf frameAtMetres parent child step walk offset cover blockIn writeLabel labelLength nameTold checkLine checkAt writeIn lengthIn holding partsOf localToSheet sheetToLocal
 refusals-numbered = record {
   points = λ s e n. line-gives 2 (isScale s) refl (line-gives 1 (owns area e n) refl answers);
   corners = λ n. line-gives 3 (isSheet n) refl answers;
@@ -110,11 +119,14 @@ refusals-numbered = record {
   localised = λ sheets n. then-gives (municipality-gives sheets) (known-gives sheets n);
   lists = λ sheets room. then-gives (set-gives ofSheets (λ n. test-gives 3 (isSheet n) refl) refl refl sheets) (laid-gives (listBytes sheets) room refl);
   sized = λ sheets. then-gives (set-gives ofSheets (λ n. test-gives 3 (isSheet n) refl) refl refl sheets) answers;
-  reading = λ bytes room.
-      read-gives _ (number-gives refl refl bytes) λ first.
-      read-gives _ (line-gives 12 (first .value ≤? 4_096) refl answers) λ count.
-      read-gives _ (room-gives count room refl) λ fit.
-      entries-give ofSheets (λ n. test-gives 13 (isSheet n) refl) refl refl refl count 0 (first .rest);
+  reading = reading-gives Sheets refl refl refl refl λ n. test-gives 13 (isSheet n) refl;
+  held = λ sheet product. line-gives 3 (isSheet sheet) refl (line-gives 24 (hasProduct (scaleOf sheet) product) refl answers);
+  parted = λ number. then-gives (judge-gives Holdings 3 number refl refl) answers;
+  judged = judged-gives;
+  counted = λ kind first. count-gives kind first refl;
+  holdings = λ holdings room. then-gives (set-gives ofHoldings (λ n. judge-gives Holdings 3 n refl refl) refl refl holdings) (laid-gives (bytesIn ofHoldings holdings) room refl);
+  holdings-sized = λ holdings. then-gives (set-gives ofHoldings (λ n. judge-gives Holdings 3 n refl refl) refl refl holdings) answers;
+  holdings-reading = λ bytes room. let r = read-as bytes room in rw (r .1) (reading-gives (r .0) refl refl refl refl (λ n. judge-gives (r .0) 13 n refl refl) bytes room);
 }
 
 pub places-told : PlacesTold

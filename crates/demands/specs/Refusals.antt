@@ -22,8 +22,12 @@ use Rattle.label.specs.Theorems.{Wrong}
 use Rattle.catalogue.specs.Line.{labelIn, readLine}
 use Rattle.official.specs.Lookup.{writeName, nameTold}
 use Rattle.official.specs.Verdict.{checkLine}
-use Rattle.shelf.specs.Writing.{writeList, listLength}
-use Rattle.shelf.specs.Reading.{readList}
+use Rattle.holding.specs.declared.Task.{Task}
+use Rattle.holding.specs.Holding.{past, holding, partsOf}
+use Rattle.shelf.specs.declared.kind.Kind as code
+use Rattle.shelf.specs.Kind.{kindOf}
+use Rattle.shelf.specs.Writing.{writeList, listLength, writeHoldings, holdingsLength}
+use Rattle.shelf.specs.Reading.{readList, readHoldings}
 
 -- a question gets an answer, or a refusal whose number is listed, with the value 0 where the refusal carries none
 pub data Gives {A : Type 0} (listed : List ℕ) : Paper A → Type 0 where
@@ -67,6 +71,14 @@ pub record RefusalsNumbered : Type 0 where
   pub sized : (sheets : List ℕ) → Gives (9 ∷ 3 ∷ 15 ∷ []) (listLength sheets)
   -- "11 .. 12 .. a count above the lent room gives 10. Each entry then gives 11, 12, 13 or a sheet. After the last entry .. 14"
   pub reading : (bytes : List ℕ) (room : ℕ) → Gives (11 ∷ 12 ∷ 10 ∷ 13 ∷ 14 ∷ []) (readList bytes room .ended)
+  -- document 02, g): "Refusals: 24, a product the scale doesn't have, after 13 in reading and after 3 in writing"
+  pub held : (sheet product : ℕ) → Gives (3 ∷ 24 ∷ []) (holding sheet product)
+  pub parted : (number : ℕ) → Gives (3 ∷ 24 ∷ []) (partsOf number)
+  pub judged : (kind : code.Kind) (task : Task) (number : ℕ) → Gives (past task ∷ 24 ∷ []) (kindOf kind .judge (past task) number)
+  pub counted : (kind : code.Kind) (first : ℕ) → Gives (12 ∷ []) (kindOf kind .count first)
+  pub holdings : (holdings : List ℕ) (room : ℕ) → Gives (9 ∷ 3 ∷ 24 ∷ 15 ∷ 10 ∷ []) (writeHoldings holdings room)
+  pub holdings-sized : (holdings : List ℕ) → Gives (9 ∷ 3 ∷ 24 ∷ 15 ∷ []) (holdingsLength holdings)
+  pub holdings-reading : (bytes : List ℕ) (room : ℕ) → Gives (11 ∷ 12 ∷ 10 ∷ 13 ∷ 24 ∷ 14 ∷ []) (readHoldings bytes room .ended)
 
 -- document 02, b): "Each, and 5 too, carries the place of the first offending byte in the label"
 pub record PlacesTold : Type 0 where

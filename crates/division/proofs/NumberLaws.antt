@@ -14,7 +14,7 @@ use Rattle.division.specs.Words.{_≤?_, _<?_, between, from, keep}
 use Rattle.division.specs.Table.{table, tableRow, rowsOf, columnsOf, made, rows, columns, sheets, first, last}
 use Rattle.division.specs.Sheet.{isSheet, onGrid, indexAt, sheetOf, scaleOf, indexOf, placeOf}
 use Rattle.division.specs.Given.{IsScale, OnGrid, Indexed}
-use Rattle.division.proofs.TestLaws.{both, le-or-less}
+use Rattle.division.proofs.TestLaws.{both, le-or-less, between-in, in-between}
 use Rattle.division.proofs.RangeLaws.{length-from, keep-none, keep-range}
 use Rattle.division.proofs.MadeLaws.{On, index<, place-index, on-place, index-place}
 use Rattle.division.proofs.TableLaws.{before, rules, all-sheets}
@@ -151,6 +151,18 @@ module _ (n : ℕ) (h : isSheet n ≡ true) where
 
   pub sheet-place : sheetOf (scaleOf n) (placeOf n) ≡ n
   sheet-place = omega (arith, index-place (made (scaleOf n)) (indexOf n) (rules (ranged .scale) .sound), ranged .low)
+
+-- a sheet is of a scale exactly if its number is between the scale's first and last
+module _ (s n : ℕ) (i : IsScale s) where
+  pub in-range : between (first s) (last s) n ≡ true → scaleOf n ≡ s
+  in-range e =
+      let b = between-in (first s) (last s) n e in
+      scale-is s n (record { scale = i; low = b .0; high = omega (arith, b .1, rules i .some) })
+
+  pub of-scale : isSheet n ≡ true → scaleOf n ≡ s → between (first s) (last s) n ≡ true
+  of-scale h f =
+      let r : Ranged s n = rw f at (ranged n h) in
+      in-between (first s) (last s) n (r .low) (omega (arith, r .high))
 
 -- the test of a place
 pub placed : {s : ℕ} → IsScale s → (p : Place) → onGrid s p ≡ true → OnGrid s p

@@ -18,9 +18,8 @@ use Rattle.division.specs.Words.{_=?_, between}
 use Rattle.division.specs.Table.{first, last}
 use Rattle.division.specs.Sheet.{isSheet, scaleOf}
 use Rattle.division.specs.Given.{IsScale}
-use Rattle.division.proofs.TestLaws.{between-in, in-between}
-use Rattle.division.proofs.TableLaws.{rules}
-use Rattle.division.proofs.NumberLaws.{Ranged, scale-is, ranged}
+use Rattle.division.proofs.TestLaws.{between-in}
+use Rattle.division.proofs.NumberLaws.{of-scale}
 use Rattle.local.specs.Municipality.{of2000, municipality}
 use Rattle.local.specs.Given.{OfScale, Municipal}
 use Rattle.local.proofs.OrderLaws.{RisesBy, rises-apart}
@@ -43,23 +42,11 @@ module _ (k : ℕ) where
       let p = passed 3 (isSheet k) _ e in
       record { sheet = p .0; scale = eqb-true (scaleOf k) 7 (passed-test 23 (scaleOf k =? 7) (p .1)) }
 
-  -- a sheet is of a scale exactly if its number is between the scale's first and last
-  module _ (s : ℕ) (h : IsScale s) where
-    pub in-range : between (first s) (last s) k ≡ true → scaleOf k ≡ s
-    in-range e =
-        let b = between-in (first s) (last s) k e in
-        scale-is s k (record { scale = h; low = b .0; high = omega (arith, b .1, rules h .some) })
-
-    of-scale : isSheet k ≡ true → scaleOf k ≡ s → between (first s) (last s) k ≡ true
-    of-scale e f =
-        let r : Ranged s k = rw f at (ranged k e) in
-        in-between (first s) (last s) k (r .low) (omega (arith, r .high))
-
   pub other-scale : isSheet k ≡ true → between (first 7) (last 7) k ≡ false → of2000 k ≡ onPaper NoMunicipality
   other-scale e f = by (scaleOf k =? 7) refl
     where
       by : (b : Bool) → (scaleOf k =? 7) ≡ b → of2000 k ≡ onPaper NoMunicipality
-      by true g = let t = of-scale 7 seven e (eqb-true (scaleOf k) 7 g) in let z : _≡_ {A = ℕ} 0 1 = cc in absurd (omega arith)
+      by true g = let t = of-scale 7 k seven e (eqb-true (scaleOf k) 7 g) in let z : _≡_ {A = ℕ} 0 1 = cc in absurd (omega arith)
       by false g = rw (e, g)
 
 -- ---- one place after the other

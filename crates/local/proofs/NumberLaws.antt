@@ -7,7 +7,9 @@ use native.Mathlib.Omega.{arith}
 use borrow.Author.Tests.{le-leb, lt-leb, leb-true}
 use Rattle.refusal.specs.declared.Refusal.{Refusal}
 use Rattle.refusal.specs.Paper.{Paper, answer, refused, isAnswer, _>>_}
-use Rattle.refusal.specs.Numbers.{onPaper, isIn}
+use Rattle.refusal.specs.Numbers.{onPaper, isIn, judgedPaper}
+use Rattle.refusal.specs.declared.Judged.{Judged}
+use Rattle.refusal.specs.declared.Judged.the-variants as judged
 use Rattle.refusal.proofs.PaperLaws.{no-answer, judge-refuses}
 use Rattle.division.specs.Table.{table, tableRow, parentScale, side, parts, first}
 use Rattle.division.specs.Sheet.{isSheet, scaleOf, indexOf, placeOf, numberIn}
@@ -20,12 +22,9 @@ use Rattle.relations.proofs.RelationLaws.{Child, child-deep}
 use Rattle.relations.proofs.RelationTheorems.{child-answered, child-scale, child-is-at, parent-has-child}
 use Rattle.local.specs.declared.Local.{Local}
 use Rattle.local.specs.declared.Local.the-variants.{One, Two, Three}
-use Rattle.local.specs.declared.municipality.Judged.{Judged}
-use Rattle.local.specs.declared.municipality.Judged.the-variants as judged
 use Rattle.local.specs.Municipality.{municipality}
 use Rattle.local.specs.Rows.{byRows, placeIn}
 use Rattle.local.specs.Numbers.{localToSheet, partNumber, numberOf, oneNumber, twoNumbers, threeNumbers, numbersOf, sheetToLocal}
-use Rattle.local.specs.Answers.{judgedPaper}
 use Rattle.local.specs.Given.{OfScale, Part, Municipal}
 
 -- ---- the list first

@@ -4,13 +4,7 @@ use Rattle.refusal.specs.Numbers.{onPaper}
 use Rattle.local.specs.declared.Local.{Local}
 use Rattle.local.specs.declared.Known.{Known}
 use Rattle.local.specs.declared.Known.the-variants as known
-use Rattle.local.specs.declared.municipality.Judged.{Judged}
-use Rattle.local.specs.declared.municipality.Judged.the-variants as judged
 
 abbrev pub knownPaper : Known → Paper Local
 knownPaper (known.By l) = answer l
 knownPaper (known.Refused why) = onPaper why
-
-abbrev pub judgedPaper : Judged → Paper Unit
-judgedPaper judged.Fine = answer tt
-judgedPaper (judged.Refused why) = onPaper why

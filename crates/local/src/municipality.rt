@@ -1,18 +1,12 @@
 // The list of a municipality.
 use division::sheet::is_sheet;
 use division::table::Scale;
+use refusal::Judged;
 use refusal::Refusal;
 ghost use mathlib.Core.Path.{_≡_};
-ghost use Rattle.refusal.specs.Numbers.{isIn};
+ghost use Rattle.refusal.specs.Numbers.{isIn, judgedPaper};
 ghost use Rattle.rising.specs.Rising.{risingFrom};
 ghost use Rattle.local.specs.Municipality.{of2000, municipality};
-ghost use Rattle.local.specs.Answers.{judgedPaper};
-
-// Whether a list is a municipality.
-pub(crate) enum Judged {
-    Fine,
-    Refused(Refusal),
-}
 
 // The refusal of the first faulty place, if there is one.
 fn places(sheets: &[u32]) -> Judged
@@ -39,6 +33,7 @@ fn places(sheets: &[u32]) -> Judged
     Judged::Fine
 }
 
+// Whether a list is a municipality.
 pub(crate) fn judge(sheets: &[u32]) -> Judged
     ensures { λ r. ⌜ judgedPaper r ≡ municipality (now (sheets .entry)) ⌝ }
 {

@@ -1,7 +1,6 @@
 // Local numbers to sheet, and sheet to local numbers.
 use crate::Known;
 use crate::Local;
-use crate::municipality::Judged;
 use crate::municipality::has;
 use crate::municipality::judge;
 use crate::rows::number_of;
@@ -9,6 +8,7 @@ use crate::rows::sheet_numbered;
 use division::Found;
 use division::sheet::is_sheet;
 use division::table::Scale;
+use refusal::Judged;
 use refusal::Refusal;
 use relations::kin::child;
 use relations::kin::parent;

@@ -1,10 +1,10 @@
 // Shelf lists.
 use crate::tell::tell_laid;
 use crate::tell::tell_refusal;
+use list_reading::read_list;
+use list_writing::list_length;
+use list_writing::write_list;
 use shelf::reading::Ended;
-use shelf::reading::read_list;
-use shelf::writing::list_length;
-use shelf::writing::write_list;
 ghost use mathlib.Core.Path.{_≡_};
 ghost use lib.ListN.{length};
 ghost use Rattle.refusal.specs.Paper.{counted, roomAfter};
@@ -30,8 +30,8 @@ pub extern "C" fn qubathimi_write_list(sheets: &[u32], room: &mut [u8], value: &
     tell_laid(write_list(sheets, room), value)
 }
 
-// How reading ended, and the count of the sheets where it read the list whole.
-fn tell_ended(ended: Ended, count: usize, value: &mut u64) -> u32
+// How reading ended, and the count of what was placed where it read the list whole.
+pub(crate) fn tell_ended(ended: Ended, count: usize, value: &mut u64) -> u32
     ensures { λ r. ⌜ r ≡ status (endedPaper ended) ⌝ }
     ensures { λ _. ⌜ now (value .exit) ≡ carried (counting (endedPaper ended) count) ⌝ }
 {

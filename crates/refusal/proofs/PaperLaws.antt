@@ -8,12 +8,14 @@ use borrow.Author.Tests.{not-true, not-false, le-leb, leb-true}
 use lib.Dec.{leb, eqb}
 use lib.ListN.{length, getD}
 use Rattle.refusal.specs.declared.Refusal.{Refusal}
-use Rattle.refusal.specs.declared.Refusal.the-variants.{PointOutside, NoScale, NoSheet, LabelLength, FieldRange, NoSuch, WindowOrder, WindowOutside, TooMany, Room, EndsEarly, BadNumber, PastLast, MoreBytes, NotRising, NameForm, NameScale, NoNumber, StrangeByte, FieldForm, NamesNoScale, Not250000, NoMunicipality}
+use Rattle.refusal.specs.declared.Refusal.the-variants.{PointOutside, NoScale, NoSheet, LabelLength, FieldRange, NoSuch, WindowOrder, WindowOutside, TooMany, Room, EndsEarly, BadNumber, PastLast, MoreBytes, NotRising, NameForm, NameScale, NoNumber, StrangeByte, FieldForm, NamesNoScale, Not250000, NoMunicipality, NoProduct}
 use Rattle.refusal.specs.declared.Numbered.{Numbered}
 use Rattle.refusal.specs.declared.Laid.{Laid}
 use Rattle.refusal.specs.declared.Laid.the-variants.{Items, Refused}
+use Rattle.refusal.specs.declared.Judged.{Judged}
+use Rattle.refusal.specs.declared.Judged.the-variants as judged
 use Rattle.refusal.specs.Paper.{Paper, answer, refused, isAnswer, refuse_at_unless_, refuse_unless_, _>>_, _>>=_, roomFor, laid, counted, roomAfter}
-use Rattle.refusal.specs.Numbers.{onPaper, carries, IsNumbered, laidPaper}
+use Rattle.refusal.specs.Numbers.{onPaper, carries, IsNumbered, laidPaper, judgedPaper}
 
 -- ---- a line of a cascade, by the code's flag for its test: `if !flag { return .. }`
 
@@ -43,7 +45,7 @@ same-answer e = cc
 
 -- the refusal of a number and a value
 abbrev refusalAt : ℕ → ℕ → Refusal
-refusalAt n v = getD (PointOutside ∷ NoScale ∷ NoSheet ∷ LabelLength v ∷ FieldRange v ∷ NoSuch ∷ WindowOrder ∷ WindowOutside ∷ TooMany ∷ Room v ∷ EndsEarly ∷ BadNumber ∷ PastLast ∷ MoreBytes ∷ NotRising ∷ NameForm ∷ NameScale ∷ NoNumber ∷ StrangeByte v ∷ FieldForm v ∷ NamesNoScale ∷ Not250000 ∷ NoMunicipality ∷ []) (n - 1) NoNumber
+refusalAt n v = getD (PointOutside ∷ NoScale ∷ NoSheet ∷ LabelLength v ∷ FieldRange v ∷ NoSuch ∷ WindowOrder ∷ WindowOutside ∷ TooMany ∷ Room v ∷ EndsEarly ∷ BadNumber ∷ PastLast ∷ MoreBytes ∷ NotRising ∷ NameForm ∷ NameScale ∷ NoNumber ∷ StrangeByte v ∷ FieldForm v ∷ NamesNoScale ∷ Not250000 ∷ NoMunicipality ∷ NoProduct ∷ []) (n - 1) NoNumber
 
 -- from the paper back to an answer of a kind
 abbrev pub read : {A X : Type 0} → (X → A) → (Refusal → A) → Paper X → A
@@ -74,6 +76,7 @@ read-refusal good bad (FieldForm place) = refl
 read-refusal good bad NamesNoScale = refl
 read-refusal good bad Not250000 = refl
 read-refusal good bad NoMunicipality = refl
+read-refusal good bad NoProduct = refl
 
 -- a refusal is no answer
 pub no-answer : (A : Type 0) (why : Refusal) → isAnswer (onPaper {A = A} why) ≡ false
@@ -123,6 +126,7 @@ on-paper (FieldForm place) = record { number = 20; some = refl; value = place; b
 on-paper NamesNoScale = record { number = 21; some = refl; value = 0; bare = λ e. refl; is = λ A. refl }
 on-paper Not250000 = record { number = 22; some = refl; value = 0; bare = λ e. refl; is = λ A. refl }
 on-paper NoMunicipality = record { number = 23; some = refl; value = 0; bare = λ e. refl; is = λ A. refl }
+on-paper NoProduct = record { number = 24; some = refl; value = 0; bare = λ e. refl; is = λ A. refl }
 
 -- and there is one telling of it in numbers
 pub one-numbering : {why : Refusal} {a b : Numbered} → IsNumbered why a → IsNumbered why b → a ≡ b
@@ -155,6 +159,13 @@ laid-told = record { back = read Items Refused; again = again }
     again : (a : Laid) → read Items Refused (laidPaper a) ≡ a
     again (Items n) = refl
     again (Refused why) = read-refusal Items Refused why
+
+pub judged-told : Told judgedPaper
+judged-told = record { back = read (λ (u : Unit). judged.Fine) judged.Refused; again = again }
+  where
+    again : (a : Judged) → read (λ (u : Unit). judged.Fine) judged.Refused (judgedPaper a) ≡ a
+    again judged.Fine = refl
+    again (judged.Refused why) = read-refusal (λ (u : Unit). judged.Fine) judged.Refused why
 
 -- ---- what is answered has passed every line in front of it, and a line that refuses decides
 

@@ -33,11 +33,18 @@ pub enum Refusal {
     NamesNoScale,
     Not250000,
     NoMunicipality,
+    NoProduct,
 }
 
 // What was laid into lent room: so many sheets or bytes, from its first place on; or a refusal, and the room is as it was.
 pub enum Laid {
     Items(usize),
+    Refused(Refusal),
+}
+
+// Whether something is as it should be, where there is nothing to hand back.
+pub enum Judged {
+    Fine,
     Refused(Refusal),
 }
 
@@ -72,6 +79,7 @@ impl Refusal {
             Refusal::NamesNoScale => Numbered(21, 0, true),
             Refusal::Not250000 => Numbered(22, 0, false),
             Refusal::NoMunicipality => Numbered(23, 0, false),
+            Refusal::NoProduct => Numbered(24, 0, false),
         }
     }
 }

@@ -5,3 +5,4 @@ pub mod WritingLaws
 pub mod ReadingLaws
 pub mod NumberTheorems
 pub mod ListTheorems
+pub mod HoldingsTheorems

@@ -29,7 +29,7 @@ use Rattle.shelf.specs.declared.reading.Read.{Read}
 use Rattle.shelf.proofs.NumberLaws.{length-number}
 use Rattle.shelf.proofs.KindLaws.{Works}
 use Rattle.shelf.proofs.WritingLaws.{entryBytes, length-list, set-in, in-set}
-use Rattle.shelf.proofs.ReadingLaws.{went-on, entries-refused, entries-whole, entries-place, first-refused, count-read}
+use Rattle.shelf.proofs.ReadingLaws.{went-on, entries-refused, entries-whole, entries-place, first-refused, first-read, count-read}
 use Rattle.shelf.proofs.NumberTheorems.{Bytes, bytes-behind, number-reads, number-cut, number-only}
 
 -- ---- sets are what is written
@@ -76,7 +76,8 @@ module _ {kind : Kind} (k : Works kind) where
   -- the first number, and what is read behind it
   first-reads : (n : ℕ) (rest : List ℕ) (room : ℕ) → n ≤ 4_096 → n ≤ room → readIn kind (numberBytes (kind .begins n) ++ rest) room ≡ entriesIn kind n 0 rest
   first-reads n rest room few enough =
-      count-read kind (numberBytes (kind .begins n) ++ rest) room (kind .begins n) rest (number-reads (kind .begins n) (k .begins-small n few) rest) n (k .counts n few) enough
+      first-read kind (numberBytes (kind .begins n) ++ rest) room _ (number-reads (kind .begins n) (k .begins-small n few) rest)
+      ∙ count-read kind (kind .begins n) rest room n (k .counts n few) enough
 
   -- demand 2: a list, given room, reads back to its set
   pub reads-back : (xs : List ℕ) (room : ℕ) → setIn kind xs ≡ answer tt → length xs ≤ room → readIn kind (bytesIn kind xs) room ≡ record { ended = answer tt; placed = xs }
@@ -214,13 +215,13 @@ module _ (least x k : ℕ) (xs : List ℕ) where
   whole-cut h = rw (lt-leb (groupsOf (x - least)) k h)
 
 -- a cut behind a whole number, and one in it
-cut-behind : (x k : ℕ) (rest : List ℕ) → groupsOf x ≤ k → take k (numberBytes x ++ rest) ≡ numberBytes x ++ take (k - groupsOf x) rest
+pub cut-behind : (x k : ℕ) (rest : List ℕ) → groupsOf x ≤ k → take k (numberBytes x ++ rest) ≡ numberBytes x ++ take (k - groupsOf x) rest
 cut-behind x k rest h =
     let e : k ≡ length (numberBytes x) + (k - groupsOf x) = omega (arith, length-number x) in
     ap (λ (n : ℕ). take n (numberBytes x ++ rest)) e
     ∙ take-append-add (numberBytes x) rest (k - groupsOf x)
 
-cut-in : (x k : ℕ) (rest : List ℕ) → x < 2 ^ 28 → k < groupsOf x → readNumber (take k (numberBytes x ++ rest)) ≡ refused 11 0
+pub cut-in : (x k : ℕ) (rest : List ℕ) → x < 2 ^ 28 → k < groupsOf x → readNumber (take k (numberBytes x ++ rest)) ≡ refused 11 0
 cut-in x k rest u h = ap readNumber (take-append-le k (numberBytes x) rest (omega (arith, length-number x))) ∙ number-cut x u k h
 
 module _ {kind : Kind} (w : Works kind) where

@@ -1,8 +1,8 @@
 -- A list is read entry by entry: what was placed and what is left to read make the whole. Assumes nothing.
-use mathlib.Core.Path.{_≡_, refl, sym, ap, _∙_}
-use mathlib.Core.List.{List}
-use Prim.Native.Nat.{ℕ, zero, suc, _+_, _-_, _^_, _≤_, _<_}
-use native.Mathlib.Nat.{zero-add, sub-zero}
+use mathlib.Core.Path.{_≡_, refl, sym, ap, ap₂, _∙_, subst}
+use mathlib.Core.List.{List, [], _∷_, map}
+use Prim.Native.Nat.{ℕ, zero, suc, _+_, _-_, _*_, _^_, _≤_, _<_}
+use native.Mathlib.Nat.{zero-add, add-zero, sub-zero, one-mul, lt-of-le-of-lt, mul-le-mul-right}
 use native.Mathlib.Numerals.{add-one, sub-one}
 use native.Mathlib.Omega.{arith}
 use borrow.Author.Tests.{le-leb, lt-leb, ne-eqb}
@@ -17,11 +17,11 @@ use Rattle.shelf.specs.declared.number.Next.the-variants as next
 use Rattle.shelf.specs.declared.reading.Ended.{Ended}
 use Rattle.shelf.specs.declared.reading.Ended.the-variants.{Whole, Refused}
 use Rattle.shelf.specs.declared.reading.Read.{Read}
-use Rattle.shelf.specs.Number.{readNumber}
-use Rattle.shelf.specs.Kind.{Kind}
-use Rattle.shelf.specs.Reading.{Reading, stop, placeThen, _thenRead_, entriesIn, behindIn, readIn, roomAfterRead, endedPaper, IsRead}
+use Rattle.shelf.specs.Number.{Number, readNumber}
+use Rattle.shelf.specs.Kind.{Kind, ofSheets, ofHoldings}
+use Rattle.shelf.specs.Reading.{Reading, stop, placeThen, _thenRead_, entriesIn, behindIn, readIn, kindTold, eachAs, readHoldings, roomAfterRead, endedPaper, IsRead}
 use Rattle.shelf.specs.Given.{IsNext}
-use Rattle.shelf.proofs.KindLaws.{Works}
+use Rattle.shelf.proofs.KindLaws.{Works, told-old, told-new}
 
 -- a refusal stops the reading
 refused-read : {A : Type 0} {p : Paper A} (why : Refusal) (next : A → Reading) → p ≡ onPaper why → (p thenRead next) ≡ stop (onPaper why)
@@ -71,19 +71,61 @@ module _ (kind : Kind) (bytes : List ℕ) (room : ℕ) where
   unfolding readIn
   first-refused why e = refused-read why _ e
 
-  module _ (v : ℕ) (rest : List ℕ) (e : readNumber bytes ≡ answer (record { value = v; rest = rest })) where
-    pub count-refused : (why : Refusal) → kind .count v ≡ onPaper why → readIn kind bytes room ≡ stop (onPaper why)
-    unfolding readIn behindIn
-    count-refused why f = rw e (refused-read why _ f)
+  pub first-read : (first : Number) → readNumber bytes ≡ answer first → readIn kind bytes room ≡ behindIn kind first room
+  unfolding readIn
+  first-read first e = rw e
 
-    module _ (count : ℕ) (f : kind .count v ≡ answer count) where
-      pub count-room : room < count → readIn kind bytes room ≡ stop (refused 10 count)
-      unfolding readIn behindIn
-      count-room l = rw (e, f, lt-leb count room l)
+module _ (kind : Kind) (v : ℕ) (rest : List ℕ) (room : ℕ) where
+  pub count-refused : (why : Refusal) → kind .count v ≡ onPaper why → behindIn kind (record { value = v; rest = rest }) room ≡ stop (onPaper why)
+  unfolding behindIn
+  count-refused why f = refused-read why _ f
 
-      pub count-read : count ≤ room → readIn kind bytes room ≡ entriesIn kind count 0 rest
-      unfolding readIn behindIn
-      count-read l = rw (e, f, le-leb count room l)
+  module _ (count : ℕ) (f : kind .count v ≡ answer count) where
+    pub count-room : room < count → behindIn kind (record { value = v; rest = rest }) room ≡ stop (refused 10 count)
+    unfolding behindIn
+    count-room l = rw (f, lt-leb count room l)
+
+    pub count-read : count ≤ room → behindIn kind (record { value = v; rest = rest }) room ≡ entriesIn kind count 0 rest
+    unfolding behindIn
+    count-read l = rw (f, le-leb count room l)
+
+-- ---- the first number, and the kind that it tells
+
+module _ (bytes : List ℕ) (room : ℕ) where
+  pub told-refused : (why : Refusal) → readNumber bytes ≡ onPaper why → readHoldings bytes room ≡ stop (onPaper why)
+  unfolding readHoldings
+  told-refused why e = refused-read why _ e
+
+  -- the new reader is that of the kind, with each number as the holding that it stands for
+  pub told-read : (kind : Kind) (first : Number) → readNumber bytes ≡ answer first → kindTold (first .value) ≡ kind → readHoldings bytes room ≡ eachAs (kind .holds) (behindIn kind first room)
+  unfolding readHoldings
+  told-read kind first e f = rw (e, f)
+
+-- numbers that are placed as themselves, or alike
+map-alike : (f g : ℕ → ℕ) → ((x : ℕ) → f x ≡ g x) → (xs : List ℕ) → map f xs ≡ map g xs
+map-alike f g same [] = refl
+map-alike f g same (x ∷ xs) = ap₂ (λ y ys. y ∷ ys) (same x) (map-alike f g same xs)
+
+pub map-self : (xs : List ℕ) → map (λ n. n) xs ≡ xs
+map-self [] = refl
+map-self (x ∷ xs) = ap (λ (ys : List ℕ). x ∷ ys) (map-self xs)
+
+each-alike : (f g : ℕ → ℕ) → ((x : ℕ) → f x ≡ g x) → (reading : Reading) → eachAs f reading ≡ eachAs g reading
+each-alike f g same reading = ap (λ (placed : List ℕ). record { ended = reading .ended; placed = placed }) (map-alike f g same (reading .placed))
+
+each-self : (reading : Reading) → eachAs (λ n. n) reading ≡ reading
+each-self reading = ap (λ (placed : List ℕ). record { ended = reading .ended; placed = placed }) (map-self (reading .placed))
+
+pub each-once : (reading : Reading) → eachAs (λ n. 1 * n) reading ≡ reading
+each-once reading = each-alike (λ n. 1 * n) (λ n. n) one-mul reading ∙ each-self reading
+
+module _ (bytes : List ℕ) (room v : ℕ) (rest : List ℕ) (e : readNumber bytes ≡ answer (record { value = v; rest = rest })) where
+  -- three times a sheet is the holding without a product, and once a holding is itself
+  pub old-thrice : v < 8_192 → eachAs (λ n. 3 * n) (behindIn ofSheets (record { value = v; rest = rest }) room) ≡ readHoldings bytes room
+  old-thrice l = each-alike (λ n. 3 * n) (ofSheets .holds) (λ n. sym (add-zero (3 * n))) (behindIn ofSheets (record { value = v; rest = rest }) room) ∙ sym (told-read bytes room ofSheets _ e (told-old v l))
+
+  pub new-once : 8_192 ≤ v → eachAs (λ n. 1 * n) (behindIn ofHoldings (record { value = v; rest = rest }) room) ≡ readHoldings bytes room
+  new-once l = each-alike (λ n. 1 * n) (ofHoldings .holds) one-mul (behindIn ofHoldings (record { value = v; rest = rest }) room) ∙ sym (told-read bytes room ofHoldings _ e (told-new v l))
 
 -- ---- what the reader owes
 
@@ -93,6 +135,10 @@ Reads reading old new r = IsRead reading r × (new ≡ roomAfterRead reading old
 -- nothing placed
 pub reads-none : {reading : Reading} {ended : Paper Unit} {r : Read} (old : List ℕ) (e : Ended) → r ≡ record { ended = e; placed = 0 } → reading ≡ stop ended → endedPaper e ≡ ended → Reads reading old old r
 reads-none old e q h f = rw (q, h) (record { ended = f; placed = refl }, refl)
+
+-- what is the same reading
+pub reads-as : {a b : Reading} {new : List ℕ} {r : Read} (old : List ℕ) → a ≡ b → Reads a old new r → Reads b old new r
+reads-as {new = new} {r = r} old e p = subst (λ (reading : Reading). Reads reading old new r) e p
 
 -- a reading under way: i numbers are placed, and `later` is what is left to read
 pub record Placing (reading : Reading) (old : List ℕ) (i : ℕ) (new : List ℕ) (later : Reading) : Type 0 where
@@ -121,29 +167,33 @@ module _ {reading : Reading} {old : List ℕ} {i : ℕ} {new : List ℕ} {later 
         sym (p .room ∙ ap (λ (r : Reading). sets new i (r .placed)) h) ∙ sets-eq (reading .placed) old 0 (omega arith) ∙ rw (zero-add (length (reading .placed))),
       )
 
--- the entries of a list: i of them are placed, and the next begins at `at`
-pub record Entering (kind : Kind) (bytes : List ℕ) (from count : ℕ) (room₀ room : List ℕ) (at least i : ℕ) : Type 0 where
+-- a number of a list, at most three times itself, is one of 32 bits
+pub times-small : (times number : ℕ) → times ≤ 3 → number < 2 ^ 28 → times * number < 2 ^ 32
+times-small times number t l = lt-of-le-of-lt (mul-le-mul-right number t) (omega arith)
+
+-- the entries of a list, each placed as something: i of them are, and the next begins at `at`
+pub record Entering (kind : Kind) (g : ℕ → ℕ) (bytes : List ℕ) (from count : ℕ) (room₀ room : List ℕ) (at least i : ℕ) : Type 0 where
   pub upto : i ≤ count
   pub enough : count ≤ length room₀
   pub low : least ≤ 2 ^ 28
-  pub placing : Placing (entriesIn kind count 0 (drop from bytes)) room₀ i room (entriesIn kind (count - i) least (drop at bytes))
+  pub placing : Placing (eachAs g (entriesIn kind count 0 (drop from bytes))) room₀ i room (eachAs g (entriesIn kind (count - i) least (drop at bytes)))
 
-pub entering-first : (kind : Kind) (bytes : List ℕ) (from count : ℕ) (room : List ℕ) → count ≤ length room → Entering kind bytes from count room room from 0 0
-entering-first kind bytes from count room h = record {
+pub entering-first : (kind : Kind) (g : ℕ → ℕ) (bytes : List ℕ) (from count : ℕ) (room : List ℕ) → count ≤ length room → Entering kind g bytes from count room room from 0 0
+entering-first kind g bytes from count room h = record {
   upto = omega arith;
   enough = h;
   low = omega arith;
-  placing = rw (sub-zero count) (placing-first (entriesIn kind count 0 (drop from bytes)) room);
+  placing = rw (sub-zero count) (placing-first (eachAs g (entriesIn kind count 0 (drop from bytes))) room);
 }
 
-module _ {kind : Kind} {bytes : List ℕ} {from count : ℕ} {room₀ room : List ℕ} {at least i : ℕ} (n : Entering kind bytes from count room₀ room at least i) where
+module _ {kind : Kind} {g : ℕ → ℕ} {bytes : List ℕ} {from count : ℕ} {room₀ room : List ℕ} {at least i : ℕ} (n : Entering kind g bytes from count room₀ room at least i) where
   -- what the whole reading owes
   abbrev Owes : Read → Type 0
-  Owes r = Reads (entriesIn kind count 0 (drop from bytes)) room₀ room r
+  Owes r = Reads (eachAs g (entriesIn kind count 0 (drop from bytes))) room₀ room r
 
   -- the list ends with this answer
   ends : {r : Read} (e : Ended) (ended : Paper Unit) → r ≡ record { ended = e; placed = i } → entriesIn kind (count - i) least (drop at bytes) ≡ stop ended → endedPaper e ≡ ended → Owes r
-  ends e ended q h f = placing-done (n .placing) e ended q h f (omega (arith, n .upto, n .enough))
+  ends e ended q h f = placing-done (n .placing) e ended q (ap (eachAs g) h) f (omega (arith, n .upto, n .enough))
 
   pub ends-over : {r : Read} → r ≡ record { ended = Refused MoreBytes; placed = i } → count ≤ i → at < length bytes → Owes r
   ends-over q h l = ends (Refused MoreBytes) (refused 14 0) q (entries-over kind (drop at bytes) least (count - i) (omega arith) (omega (arith, length-drop at bytes))) refl
@@ -159,12 +209,12 @@ module _ {kind : Kind} {bytes : List ℕ} {from count : ℕ} {room₀ room : Lis
       pub ends-judged : {r : Read} (why : Refusal) → r ≡ record { ended = Refused why; placed = i } → kind .judge 13 (least + v) ≡ onPaper why → Owes r
       ends-judged why q f = ends (Refused why) (onPaper why) q (entries-judged kind (drop at bytes) least v (drop end bytes) (e .0) (count - i) why (omega arith) f) refl
 
-      pub entering-next : Works kind → kind .judge 13 (least + v) ≡ answer tt → Entering kind bytes from count room₀ (set room i (least + v)) end (least + v + 1) (i + 1)
+      pub entering-next : Works kind → kind .judge 13 (least + v) ≡ answer tt → Entering kind g bytes from count room₀ (set room i (g (least + v))) end (least + v + 1) (i + 1)
       entering-next k f =
           let left : count - i - 1 ≡ count - (i + 1) = omega arith in
           record {
             upto = omega arith;
             enough = n .enough;
             low = omega (arith, k .fine-small 13 (least + v) f);
-            placing = placing-next (n .placing) (least + v) _ (rw left at (entries-place kind (drop at bytes) least v (drop end bytes) (e .0) (count - i) (omega arith) f));
+            placing = placing-next (n .placing) (g (least + v)) _ (ap (eachAs g) (rw left at (entries-place kind (drop at bytes) least v (drop end bytes) (e .0) (count - i) (omega arith) f)));
           }

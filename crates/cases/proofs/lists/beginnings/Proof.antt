@@ -6,10 +6,10 @@ use Rattle.cases.proofs.lists.beginnings.Statement.{statement}
 use Rattle.cases.proofs.lists.beginnings.Tie as tie
 
 abbrev Inv-loop : tie.InvT-loop
-Inv-loop bytes size n₀ n = n ≤ length bytes
+Inv-loop new bytes size n₀ n = n ≤ length bytes
 
 abbrev μ-loop : tie.MeasureT-loop
-μ-loop bytes size n₀ n = length bytes - n
+μ-loop new bytes size n₀ n = length bytes - n
 
 loop-holds : tie.Need-loop-holds Inv-loop μ-loop
 loop-holds c = search needs

@@ -5,10 +5,10 @@ use Rattle.cases.proofs.lists.changes.Statement.{statement}
 use Rattle.cases.proofs.lists.changes.Tie as tie
 
 abbrev Inv-loop : tie.InvT-loop
-Inv-loop n bytes size sum₀ i₀ sum i = i ≤ 131072
+Inv-loop new n bytes size sum₀ i₀ sum i = i ≤ 131072
 
 abbrev μ-loop : tie.MeasureT-loop
-μ-loop n bytes size sum₀ i₀ sum i = 131072 - i
+μ-loop new n bytes size sum₀ i₀ sum i = 131072 - i
 
 loop-holds : tie.Need-loop-holds Inv-loop μ-loop
 loop-holds c = search needs

@@ -13,7 +13,8 @@ use Rattle.division.specs.Words.{between}
 use Rattle.division.specs.Sheet.{isSheet}
 use Rattle.local.specs.Municipality.{of2000}
 use Rattle.local.specs.Given.{OfScale}
-use Rattle.local.proofs.MunicipalityLaws.{seven, no-sheet, other-scale, in-range, Judging, judged-here, falls, goes-on}
+use Rattle.division.proofs.NumberLaws.{in-range}
+use Rattle.local.proofs.MunicipalityLaws.{seven, no-sheet, other-scale, Judging, judged-here, falls, goes-on}
 use Rattle.local.proofs.municipality.places.Statement.{statement}
 use Rattle.local.proofs.municipality.places.Tie as tie
 
@@ -33,7 +34,7 @@ scale-at c =
     let l = c .before .before .before .before .before in
     let k = getD (l .before .before .before .before .args .sheets .now) (l .loop .i) 0 in
     let t : between (l .before .before .first .result) (l .before .last .result) k ≡ true = not-false _ (c .if2 .left) in
-    record { sheet = is-one (c .before); scale = in-range k 7 seven (rw (l .before .before .first .ensures, l .before .last .ensures) at t) }
+    record { sheet = is-one (c .before); scale = in-range 7 k seven (rw (l .before .before .first .ensures, l .before .last .ensures) at t) }
 
 first-requires : tie.Need-first-requires Inv-loop μ-loop
 first-requires c κs = search needs

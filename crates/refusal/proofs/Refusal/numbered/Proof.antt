@@ -81,6 +81,9 @@ enum-told-17 c = search needs
 enum-told-18 : tie.Need-enum-told-18
 enum-told-18 c = search needs
 
+enum-told-19 : tie.Need-enum-told-19
+enum-told-19 c = search needs
+
 returns : tie.Need-returns
 returns c = told (c .enum-told .given .1) refl refl
 
@@ -150,6 +153,9 @@ returns-22 c = told (c .enum-told17 .given .1) refl refl
 returns-23 : tie.Need-returns-23
 returns-23 c = told (c .enum-told18 .given .1) refl refl
 
+returns-24 : tie.Need-returns-24
+returns-24 c = told (c .enum-told19 .given .1) refl refl
+
 pub numbered-spec : {M : Type 1} → statement M
 numbered-spec =
     tie.close
@@ -177,6 +183,7 @@ numbered-spec =
     enum-told-16
     enum-told-17
     enum-told-18
+    enum-told-19
     returns
     returns-2
     returns-3
@@ -199,4 +206,5 @@ numbered-spec =
     returns-20
     returns-21
     returns-22
-    returns-23)
+    returns-23
+    returns-24)

@@ -1,0 +1,71 @@
+-- The first number tells the count, and no more numbers follow it than there is room. Assumes nothing.
+use mathlib.Core.Path.{_≡_, refl, sym, ap, _∙_}
+use Prim.Native.Nat.{_*_}
+use lib.ListN.{length, drop}
+use Rattle.refusal.specs.Paper.{answer}
+use Rattle.shelf.specs.Kind.{kindOf, countPaper}
+use Rattle.shelf.specs.Reading.{eachAs}
+use Rattle.shelf.proofs.ReadingLaws.{reads-none, reads-as, count-refused, count-room, count-read}
+use borrow.Author.Needs.{needs}
+use Rattle.list_reading.proofs.read_behind.Statement.{statement}
+use Rattle.list_reading.proofs.read_behind.Tie as tie
+
+-- the count that was told
+got : (c : tie.After-known-told2) → kindOf (c .before .before .before .before .before .before .args .kind) .count (c .before .before .before .before .before .before .args .first) ≡ answer (c .before .count .given .0 .0)
+got c = sym (c .before .before .before .counted .ensures) ∙ ap countPaper (c .before .count .given .1)
+
+counted-requires : tie.Need-counted-requires
+counted-requires c κs = search needs
+
+enum-known-why : tie.Need-enum-known-why
+enum-known-why c = search needs
+
+refused-requires : tie.Need-refused-requires
+refused-requires c κs = search needs
+
+enum-known-count : tie.Need-enum-known-count
+enum-known-count c = search needs
+
+refused-requires-2 : tie.Need-refused-requires-2
+refused-requires-2 c κs = search needs
+
+returns : tie.Need-returns
+returns c =
+    let a = c .before .before .before .before .before .before .before .before .args in
+    reads-none (a .room .now) _ (c .refused2 .ensures)
+    (ap (eachAs (λ n. a .times * n)) (count-room (kindOf (a .kind)) (a .first) (drop (a .from) (a .bytes .now)) (length (a .room .now)) _ (got (c .before .before)) (c .before .if1 .taken))) refl
+
+read-entries-requires : tie.Need-read-entries-requires
+read-entries-requires c κs = search needs
+
+returns-2 : tie.Need-returns-2
+returns-2 c =
+    let a = c .before .before .before .before .before .before .before .args in
+    let why = c .before .before .why .given in
+    reads-none (a .room .now) _ (c .refused .ensures)
+    (ap (eachAs (λ n. a .times * n)) (count-refused (kindOf (a .kind)) (a .first) (drop (a .from) (a .bytes .now)) (length (a .room .now)) (why .0 .0) (sym (c .before .before .before .before .counted .ensures) ∙ ap countPaper (why .1)))) refl
+
+same-length : tie.Need-same-length
+same-length c = search needs
+
+returns-3 : tie.Need-returns-3
+returns-3 c =
+    let a = c .before .before .before .before .before .before .before .before .before .before .before .args in
+    reads-as (a .room .now)
+    (ap (eachAs (λ n. a .times * n)) (sym (count-read (kindOf (a .kind)) (a .first) (drop (a .from) (a .bytes .now)) (length (a .room .now)) _ (got (c .before .before .before .before .before)) (c .before .before .before .before .if1 .left))))
+    (c .before .before .read-entries .ensures)
+
+pub read-behind-spec : {M : Type 1} → statement M
+read-behind-spec =
+    tie.close
+    (tie.spec
+    counted-requires
+    enum-known-why
+    refused-requires
+    enum-known-count
+    refused-requires-2
+    returns
+    read-entries-requires
+    returns-2
+    same-length
+    returns-3)
