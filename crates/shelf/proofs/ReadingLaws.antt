@@ -171,29 +171,31 @@ module _ {reading : Reading} {old : List ℕ} {i : ℕ} {new : List ℕ} {later 
 pub times-small : (times number : ℕ) → times ≤ 3 → number < 2 ^ 28 → times * number < 2 ^ 32
 times-small times number t l = lt-of-le-of-lt (mul-le-mul-right number t) (omega arith)
 
--- the entries of a list, each placed as something: i of them are, and the next begins at `at`
-pub record Entering (kind : Kind) (g : ℕ → ℕ) (bytes : List ℕ) (from count : ℕ) (room₀ room : List ℕ) (at least i : ℕ) : Type 0 where
+-- the entries of a list, each placed as so many times itself: i of them are, and the next begins at `at`
+pub record Entering (kind : Kind) (times : ℕ) (bytes : List ℕ) (from count : ℕ) (room₀ room : List ℕ) (at least i : ℕ) : Type 0 where
+  pub three : times ≤ 3
   pub upto : i ≤ count
   pub enough : count ≤ length room₀
   pub low : least ≤ 2 ^ 28
-  pub placing : Placing (eachAs g (entriesIn kind count 0 (drop from bytes))) room₀ i room (eachAs g (entriesIn kind (count - i) least (drop at bytes)))
+  pub placing : Placing (eachAs (λ n. times * n) (entriesIn kind count 0 (drop from bytes))) room₀ i room (eachAs (λ n. times * n) (entriesIn kind (count - i) least (drop at bytes)))
 
-pub entering-first : (kind : Kind) (g : ℕ → ℕ) (bytes : List ℕ) (from count : ℕ) (room : List ℕ) → count ≤ length room → Entering kind g bytes from count room room from 0 0
-entering-first kind g bytes from count room h = record {
+pub entering-first : (kind : Kind) (times : ℕ) (bytes : List ℕ) (from count : ℕ) (room : List ℕ) → (times ≤ 3) × (count ≤ length room) → Entering kind times bytes from count room room from 0 0
+entering-first kind times bytes from count room h = record {
+  three = h .0;
   upto = omega arith;
-  enough = h;
+  enough = h .1;
   low = omega arith;
-  placing = rw (sub-zero count) (placing-first (eachAs g (entriesIn kind count 0 (drop from bytes))) room);
+  placing = rw (sub-zero count) (placing-first (eachAs (λ n. times * n) (entriesIn kind count 0 (drop from bytes))) room);
 }
 
-module _ {kind : Kind} {g : ℕ → ℕ} {bytes : List ℕ} {from count : ℕ} {room₀ room : List ℕ} {at least i : ℕ} (n : Entering kind g bytes from count room₀ room at least i) where
+module _ {kind : Kind} {times : ℕ} {bytes : List ℕ} {from count : ℕ} {room₀ room : List ℕ} {at least i : ℕ} (n : Entering kind times bytes from count room₀ room at least i) where
   -- what the whole reading owes
   abbrev Owes : Read → Type 0
-  Owes r = Reads (eachAs g (entriesIn kind count 0 (drop from bytes))) room₀ room r
+  Owes r = Reads (eachAs (λ n. times * n) (entriesIn kind count 0 (drop from bytes))) room₀ room r
 
   -- the list ends with this answer
   ends : {r : Read} (e : Ended) (ended : Paper Unit) → r ≡ record { ended = e; placed = i } → entriesIn kind (count - i) least (drop at bytes) ≡ stop ended → endedPaper e ≡ ended → Owes r
-  ends e ended q h f = placing-done (n .placing) e ended q (ap (eachAs g) h) f (omega (arith, n .upto, n .enough))
+  ends e ended q h f = placing-done (n .placing) e ended q (ap (eachAs (λ n. times * n)) h) f (omega (arith, n .upto, n .enough))
 
   pub ends-over : {r : Read} → r ≡ record { ended = Refused MoreBytes; placed = i } → count ≤ i → at < length bytes → Owes r
   ends-over q h l = ends (Refused MoreBytes) (refused 14 0) q (entries-over kind (drop at bytes) least (count - i) (omega arith) (omega (arith, length-drop at bytes))) refl
@@ -209,12 +211,13 @@ module _ {kind : Kind} {g : ℕ → ℕ} {bytes : List ℕ} {from count : ℕ} {
       pub ends-judged : {r : Read} (why : Refusal) → r ≡ record { ended = Refused why; placed = i } → kind .judge 13 (least + v) ≡ onPaper why → Owes r
       ends-judged why q f = ends (Refused why) (onPaper why) q (entries-judged kind (drop at bytes) least v (drop end bytes) (e .0) (count - i) why (omega arith) f) refl
 
-      pub entering-next : Works kind → kind .judge 13 (least + v) ≡ answer tt → Entering kind g bytes from count room₀ (set room i (g (least + v))) end (least + v + 1) (i + 1)
+      pub entering-next : Works kind → kind .judge 13 (least + v) ≡ answer tt → Entering kind times bytes from count room₀ (set room i (times * (least + v))) end (least + v + 1) (i + 1)
       entering-next k f =
           let left : count - i - 1 ≡ count - (i + 1) = omega arith in
           record {
+            three = n .three;
             upto = omega arith;
             enough = n .enough;
             low = omega (arith, k .fine-small 13 (least + v) f);
-            placing = placing-next (n .placing) (g (least + v)) _ (ap (eachAs g) (rw left at (entries-place kind (drop at bytes) least v (drop end bytes) (e .0) (count - i) (omega arith) f)));
+            placing = placing-next (n .placing) (times * (least + v)) _ (ap (eachAs (λ n. times * n)) (rw left at (entries-place kind (drop at bytes) least v (drop end bytes) (e .0) (count - i) (omega arith) f)));
           }

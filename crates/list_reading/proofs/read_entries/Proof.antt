@@ -2,7 +2,7 @@
 use borrow.Author.Needs.{needs}
 use native.Mathlib.Omega.{arith}
 use mathlib.Core.Path.{_≡_, sym, _∙_, ap, subst}
-use Prim.Native.Nat.{ℕ, _+_, _-_, _*_, _^_, _≤_, _<_}
+use Prim.Native.Nat.{ℕ, _+_, _-_, _^_, _<_}
 use Rattle.refusal.specs.Paper.{answer}
 use Rattle.refusal.specs.Numbers.{judgedPaper}
 use Rattle.shelf.specs.declared.number.Next.{Next}
@@ -15,7 +15,7 @@ use Rattle.list_reading.proofs.read_entries.Statement.{statement}
 use Rattle.list_reading.proofs.read_entries.Tie as tie
 
 abbrev Inv-loop : tie.InvT-loop
-Inv-loop kind times bytes from count room₀ at₀ least₀ i₀ room at least i = (times ≤ 3) × Entering (kindOf kind) (λ n. times * n) bytes from count room₀ room at least i
+Inv-loop kind times bytes from count room₀ at₀ least₀ i₀ room at least i = Entering (kindOf kind) times bytes from count room₀ room at least i
 
 abbrev μ-loop : tie.MeasureT-loop
 μ-loop kind times bytes from count room₀ at₀ least₀ i₀ room at least i = count - i
@@ -36,7 +36,7 @@ small : (c : tie.After-enum-told Inv-loop μ-loop) → led c < 2 ^ 28
 small c = works (c .before .before .before .before .before .before .before .before .before .before .before .args .kind) .fine-small 13 (led c) (is-fine c)
 
 loop-holds : tie.Need-loop-holds Inv-loop μ-loop
-loop-holds c = let a = c .before .before in (a .pre .0, entering-first (kindOf (a .args .kind)) (λ n. a .args .times * n) (a .args .bytes .now) (a .args .from) (a .args .count) (a .args .room .now) (a .pre .1))
+loop-holds c = let a = c .before .before in entering-first (kindOf (a .args .kind)) (a .args .times) (a .args .bytes .now) (a .args .from) (a .args .count) (a .args .room .now) (a .pre)
 
 next-number-requires : tie.Need-next-number-requires Inv-loop μ-loop
 next-number-requires c κs = search needs
@@ -55,14 +55,14 @@ returns c =
     let l = c .before .before .before .before .before .before .loop in
     let bytes = c .before .before .before .before .before .before .before .before .before .args .bytes .now in
     let why = c .before .before .why in
-    ends-refused (l .inv .1) (c .before .before .before .before .before .loop-test .taken) (why .given .0 .0) (c .refused .ensures)
+    ends-refused (l .inv) (c .before .before .before .before .before .loop-test .taken) (why .given .0 .0) (c .refused .ensures)
     (subst (λ (r : Next). IsNext bytes (l .at) r) (why .given .1) (c .before .before .before .before .next-number .ensures))
 
 enum-known-gap : tie.Need-enum-known-gap Inv-loop μ-loop
 enum-known-gap c = search needs
 
 add-number : tie.Need-add-number Inv-loop μ-loop
-add-number c = omega (arith, c .before .before .before .before .before .loop .inv .1 .low, got c .1)
+add-number c = omega (arith, c .before .before .before .before .before .loop .inv .low, got c .1)
 
 judged-requires : tie.Need-judged-requires Inv-loop μ-loop
 judged-requires c κs = search needs
@@ -80,13 +80,13 @@ returns-2 : tie.Need-returns-2 Inv-loop μ-loop
 returns-2 c =
     let l = c .before .before .before .before .before .before .before .before .before .before .loop in
     let why = c .before .before .fault .given in
-    ends-judged (l .inv .1) (c .before .before .before .before .before .before .before .before .before .loop-test .taken) _ _ (got (c .before .before .before .before .before)) (why .0 .0) (c .refused2 .ensures) (sym (c .before .before .before .before .judged .ensures) ∙ ap judgedPaper (why .1))
+    ends-judged (l .inv) (c .before .before .before .before .before .before .before .before .before .loop-test .taken) _ _ (got (c .before .before .before .before .before)) (why .0 .0) (c .refused2 .ensures) (sym (c .before .before .before .before .judged .ensures) ∙ ap judgedPaper (why .1))
 
 enum-told : tie.Need-enum-told Inv-loop μ-loop
 enum-told c = search needs
 
 mul-room : tie.Need-mul-room Inv-loop μ-loop
-mul-room c = omega (arith, times-small (c .before .before .before .before .before .before .before .before .before .before .before .args .times) _ (c .before .before .before .before .before .before .before .before .loop .inv .0) (small c))
+mul-room c = omega (arith, times-small (c .before .before .before .before .before .before .before .before .before .before .before .args .times) _ (c .before .before .before .before .before .before .before .before .loop .inv .three) (small c))
 
 mul-room-2 : tie.Need-mul-room-2 Inv-loop μ-loop
 mul-room-2 c = search needs
@@ -107,7 +107,7 @@ loop-again : tie.Need-loop-again Inv-loop μ-loop
 loop-again c =
     let l = c .before .before .before .before .before .before .before .before .loop in
     let k = works (c .before .before .before .before .before .before .before .before .before .before .before .args .kind) in
-    (l .inv .0, entering-next (l .inv .1) (c .before .before .before .before .before .before .before .loop-test .taken) _ _ (got (c .before .before .before)) k (is-fine c))
+    entering-next (l .inv) (c .before .before .before .before .before .before .before .loop-test .taken) _ _ (got (c .before .before .before)) k (is-fine c)
 
 refused-requires-3 : tie.Need-refused-requires-3 Inv-loop μ-loop
 refused-requires-3 c κs = search needs
@@ -116,13 +116,13 @@ same-length-3 : tie.Need-same-length-3 Inv-loop μ-loop
 same-length-3 c = search needs
 
 returns-3 : tie.Need-returns-3 Inv-loop μ-loop
-returns-3 c = ends-over (c .before .before .before .loop .inv .1) (c .refused3 .ensures) (c .before .before .loop-test .left) (c .before .if1 .taken)
+returns-3 c = ends-over (c .before .before .before .loop .inv) (c .refused3 .ensures) (c .before .before .loop-test .left) (c .before .if1 .taken)
 
 same-length-4 : tie.Need-same-length-4 Inv-loop μ-loop
 same-length-4 c = search needs
 
 returns-4 : tie.Need-returns-4 Inv-loop μ-loop
-returns-4 c = ends-whole (c .before .before .loop .inv .1) (c .before .loop-test .left) (c .if1 .left)
+returns-4 c = ends-whole (c .before .before .loop .inv) (c .before .loop-test .left) (c .if1 .left)
 
 pub read-entries-spec : {M : Type 1} → statement M
 read-entries-spec =
