@@ -1,6 +1,6 @@
 // Holdings (document 02, g): a sheet with a product, under one number.
 //
-// At 1:5 000 HOK5 and DOF5 share a label, and so do KP2000 and DOF2 at 1:2 000. A holding says which of them lies in the drawer: product 0
+// At 1:5 000 HOK5 and DOF5 share a label, and so do KP2000 and DOF2 at 1:2 000. A holding says which of them lies on the shelf: product 0
 // leaves it unstated, 1 is the first product of the scale, and 2 the second, which only scales 6 and 7 have. Its number is three times the
 // sheet number plus the product: sheet 344 with its first product is 1 033.
 use division::sheet::is_sheet;
