@@ -11,36 +11,63 @@ use shelf::number::Next;
 use shelf::reading::Ended;
 use shelf::reading::Read;
 ghost use mathlib.Core.Path.{_≡_};
-ghost use Prim.Native.Nat.{_*_, _≤_};
+ghost use Prim.Native.Nat.{_+_, _*_, _^_, _≤_, _<_};
 ghost use lib.ListN.{length, drop};
 ghost use Rattle.shelf.specs.declared.reading.Ended.the-variants.{Refused};
 ghost use Rattle.shelf.specs.Kind.{kindOf};
 ghost use Rattle.shelf.specs.Reading.{entriesIn, behindIn, eachAs, readList, readHoldings, roomAfterRead, IsRead};
-ghost use Rattle.shelf.specs.Given.{IsNext};
+ghost use Rattle.shelf.specs.Given.{IsNext, endsWith};
 
-// The number at a place.
+// A number that ends with this group, of this weight, behind others of this value: no group of zero stands there.
+fn last_group(value: u32, weight: u32, group: u32, end: usize) -> Next
+    requires { ⌜ value + weight * group < 2 ^ 28 ⌝ }
+    ensures { λ r. ⌜ r ≡ endsWith group (value + weight * group) end ⌝ }
+{
+    if group == 0 {
+        return Next::Refused(Refusal::BadNumber);
+    }
+    Next::Number(value + weight * group, end)
+}
+
+// The number at a place, in one group, two, three or four: written out, since with a loop a short list takes a third longer to read.
 fn next_number(bytes: &[u8], at: usize) -> Next
     ensures { λ r. ⌜ IsNext (now (bytes .entry)) at r ⌝ }
 {
-    let mut value: u32 = 0;
-    let mut weight: u32 = 1;
-    let mut i = at;
-    while i < bytes.len() {
-        let b = bytes[i] as u32;
-        if b < 128 {
-            if (b == 0) & (at < i) {
-                return Next::Refused(Refusal::BadNumber);
-            }
-            return Next::Number(value + weight * b, i + 1);
-        }
-        if i - at == 3 {
-            return Next::Refused(Refusal::BadNumber);
-        }
-        value += weight * (b - 128);
-        weight *= 128;
-        i += 1;
+    if bytes.len() <= at {
+        return Next::Refused(Refusal::EndsEarly);
     }
-    Next::Refused(Refusal::EndsEarly)
+    let a = bytes[at] as u32;
+    let second = at + 1;
+    if a < 128 {
+        return Next::Number(a, second);
+    }
+    if bytes.len() <= second {
+        return Next::Refused(Refusal::EndsEarly);
+    }
+    let one = a - 128;
+    let b = bytes[second] as u32;
+    let third = second + 1;
+    if b < 128 {
+        return last_group(one, 128, b, third);
+    }
+    if bytes.len() <= third {
+        return Next::Refused(Refusal::EndsEarly);
+    }
+    let two = one + 128 * (b - 128);
+    let c = bytes[third] as u32;
+    let fourth = third + 1;
+    if c < 128 {
+        return last_group(two, 16_384, c, fourth);
+    }
+    if bytes.len() <= fourth {
+        return Next::Refused(Refusal::EndsEarly);
+    }
+    let three = two + 16_384 * (c - 128);
+    let d = bytes[fourth] as u32;
+    if 128 <= d {
+        return Next::Refused(Refusal::BadNumber);
+    }
+    last_group(three, 2_097_152, d, fourth + 1)
 }
 
 // A reading that is refused, with so many numbers placed.
