@@ -15,8 +15,8 @@ use list_writing::list_length;
 use list_writing::write_holdings;
 use list_writing::write_list;
 use refusal::Laid;
+use shelf::Read;
 use shelf::number;
-use shelf::reading::Read;
 use std::num::wrapping_add_u32;
 
 // How many sheets a question may have: more than any list has.

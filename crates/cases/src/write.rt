@@ -5,7 +5,7 @@ use libc::STDOUT_FILENO;
 use refusal::Laid;
 use refusal::Refusal;
 use relations::Neighbour;
-use shelf::reading::Ended;
+use shelf::Ended;
 use std::num::wrapping_add_u64;
 
 pub(crate) const OUT: u64 = 0;

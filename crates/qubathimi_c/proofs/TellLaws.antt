@@ -6,7 +6,7 @@ use Rattle.refusal.specs.declared.Refusal.{Refusal}
 use Rattle.refusal.specs.Paper.{Paper, answer, refused, _>>=_, counted}
 use Rattle.refusal.specs.Numbers.{onPaper}
 use Rattle.refusal.proofs.PaperLaws.{on-paper}
-use Rattle.shelf.specs.declared.reading.Read.{Read}
+use Rattle.shelf.specs.declared.Read.{Read}
 use Rattle.shelf.specs.Reading.{Reading, endedPaper, IsRead}
 use Rattle.qubathimi_c.specs.Plain.{counting, readCount}
 use Rattle.qubathimi_c.specs.Told.{status, carried}

@@ -4,7 +4,7 @@ use crate::tell::tell_refusal;
 use list_reading::read_list;
 use list_writing::list_length;
 use list_writing::write_list;
-use shelf::reading::Ended;
+use shelf::Ended;
 ghost use mathlib.Core.Path.{_≡_};
 ghost use lib.ListN.{length};
 ghost use Rattle.refusal.specs.Paper.{counted, roomAfter};

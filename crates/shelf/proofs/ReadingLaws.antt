@@ -14,9 +14,9 @@ use Rattle.refusal.specs.declared.Refusal.{Refusal}
 use Rattle.refusal.specs.declared.Refusal.the-variants.{MoreBytes}
 use Rattle.refusal.proofs.PaperLaws.{on-paper, differs}
 use Rattle.shelf.specs.declared.number.Next.the-variants as next
-use Rattle.shelf.specs.declared.reading.Ended.{Ended}
-use Rattle.shelf.specs.declared.reading.Ended.the-variants.{Whole, Refused}
-use Rattle.shelf.specs.declared.reading.Read.{Read}
+use Rattle.shelf.specs.declared.Ended.{Ended}
+use Rattle.shelf.specs.declared.Ended.the-variants.{Whole, Refused}
+use Rattle.shelf.specs.declared.Read.{Read}
 use Rattle.shelf.specs.Number.{Number, readNumber}
 use Rattle.shelf.specs.Kind.{Kind, ofSheets, ofHoldings}
 use Rattle.shelf.specs.Reading.{Reading, stop, placeThen, _thenRead_, entriesIn, behindIn, readIn, kindTold, eachAs, readHoldings, roomAfterRead, endedPaper, IsRead}

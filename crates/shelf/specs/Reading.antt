@@ -9,9 +9,9 @@ use Rattle.refusal.specs.Numbers.{onPaper}
 use Rattle.division.specs.Words.{_≤?_, _=?_}
 use Rattle.shelf.specs.Number.{Number, readNumber}
 use Rattle.shelf.specs.Kind.{Kind, ofSheets, ofHoldings}
-use Rattle.shelf.specs.declared.reading.Ended.{Ended}
-use Rattle.shelf.specs.declared.reading.Ended.the-variants.{Whole, Refused}
-use Rattle.shelf.specs.declared.reading.Read.{Read}
+use Rattle.shelf.specs.declared.Ended.{Ended}
+use Rattle.shelf.specs.declared.Ended.the-variants.{Whole, Refused}
+use Rattle.shelf.specs.declared.Read.{Read}
 
 -- how reading ends, and the numbers that it has placed
 pub record Reading : Type 0 where
