@@ -44,6 +44,7 @@ pub enum Question {
     HoldingsLength { holdings: Vec<u32> },
     WriteHoldings { holdings: Vec<u32>, room: usize },
     ReadHoldings { list: Vec<u8>, room: usize },
+    CheckDelivery { scale: u32, window: Frame, delivery: Vec<u32> },
 }
 
 #[derive(Clone, Copy, PartialEq)]
@@ -54,7 +55,7 @@ enum Room {
 }
 
 /// Of each kind of question, in order: the function, how many numbers it gives, and the room that is lent to it.
-const KINDS: [(&str, usize, Room); 35] = [
+const KINDS: [(&str, usize, Room); 36] = [
     ("width, height, rows, columns, first, last", 6, Room::None),
     ("scale_of", 0, Room::None),
     ("locate", 3, Room::None),
@@ -90,12 +91,13 @@ const KINDS: [(&str, usize, Room); 35] = [
     ("holdings_length", 1, Room::None),
     ("write_holdings", 1, Room::Bytes),
     ("read_holdings", 2, Room::Sheets),
+    ("check_delivery", 1, Room::None),
 ];
 
 /// The kinds whose numbers are floats.
 const IN_METRES: [usize; 2] = [23, 25];
 /// The results that there are: 0, and the numbers of refusal.
-const RESULTS: usize = 25;
+const RESULTS: usize = 28;
 
 const GUARD: usize = 8;
 const NONE: u32 = u32::MAX;
@@ -226,6 +228,7 @@ impl Question {
             Question::HoldingsLength { .. } => 33,
             Question::WriteHoldings { .. } => 34,
             Question::ReadHoldings { .. } => 35,
+            Question::CheckDelivery { .. } => 36,
         }
     }
 
@@ -316,6 +319,11 @@ impl Question {
             Question::SheetToLocal { municipality, sheet } => {
                 set(to, municipality);
                 numbers(to, &[*sheet]);
+            }
+            Question::CheckDelivery { scale, window, delivery } => {
+                numbers(to, &[*scale]);
+                wide(to, &[window.west, window.east, window.south, window.north]);
+                set(to, delivery);
             }
         }
     }
@@ -414,6 +422,7 @@ impl Question {
             Question::HoldingsLength { holdings } => form.value(division.holdings_length(holdings).map(|length| length as u64)),
             Question::WriteHoldings { holdings, room } => form.written(*room, division.write_holdings(holdings, *room)),
             Question::ReadHoldings { list, room } => form.placed(*room, division.read_holdings(list, *room)),
+            Question::CheckDelivery { scale, window, delivery } => form.value(division.check_delivery(*scale, *window, delivery)),
         }
     }
 }

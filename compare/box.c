@@ -459,6 +459,17 @@ static void answer(void) {
         put_out(2);
         put_sheets_room();
         break;
+    case 36:
+        a = take_u32();
+        west = take_i64();
+        east = take_i64();
+        south = take_i64();
+        north = take_i64();
+        set = take_sheets(&m);
+        a = qubathimi_check_delivery(a, west, east, south, north, set, m, at(0));
+        begin(kind, a);
+        put_out(1);
+        break;
     default:
         broken = 1;
         return;

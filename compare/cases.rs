@@ -11,9 +11,10 @@
 //! follows. Sheets are told by their numbers, points and edges in millimetres, and bytes in hexadecimal. A float, of `quad` and `under`
 //! alone, is told by its bits: those below the sign as a whole number, with a minus in front where the sign is set, so that
 //! 4692333547057315840 is 500 000.0 and -0 is -0.0. The line of crates/cases/stdout is the question, a colon and the answer. A refusal is
-//! told by its number, and what it carries: 10 the room needed, and 4, 19, 20, 21 and 5 the place in the label, also where it is 0. Of more
-//! than forty bytes or sheets only the sum is told, and a sum is always one over the bytes that would be written. Holdings are told by
-//! their numbers, too; a question about lists of them has the form of that about lists of sheets, with a capital.
+//! told by its number, and what it carries, also where that is 0: 10 the room needed; 4, 19, 20, 21 and 5 the place in the label; 25 and 26
+//! the place in the delivery; and 27 the sheet that is missing. Of more than forty bytes or sheets only the sum is told, and a sum is always
+//! one over the bytes that would be written. Holdings are told by their numbers, too; a question about lists of them has the form of that
+//! about lists of sheets, with a capital.
 //!
 //!     table 3                   of the scale: width and height in metres, first and last sheet; and the last scale and
 //!                               the last sheet of all
@@ -76,6 +77,14 @@
 //!     Bytes 3 0300d702bc        what is read from the bytes as a list of sheets, by the old reader, and as a list of
 //!                               holdings, by the new one, in room for so many each
 //!     Vary 3 0300d702bc         a sum over what `Bytes` tells when each byte in turn is changed to each of the 256
+//!     Deliver 4 w e s n 2 774 775
+//!                               of a delivery of so many numbers, here two, for the scale's cover of the window: the count
+//!                               of the cover where it is accepted
+//!     Supply 4 w e s n 0 3 8    the same for a delivery from the cover itself: of its sheets, in its order and counted from
+//!                               0, those at the places by a rule, as in `rule`, told by the first, the step and the count;
+//!                               behind the last sheet it starts again. Where there is no cover, each number is 0
+//!     Supply 4 w e s n 0 3 8 7 5
+//!                               the same with another number in a place, as in `rule`
 //!
 //! The questions that are stored there try, beside the examples: every border by one before, on and behind it (the area's and the sheets'
 //! edges by a millimetre and in metres by a float, the grids' ends, each scale's first and last sheet, each field's range, each length of a
@@ -87,7 +96,9 @@
 //! fifteen official names, each with its sheet, with others and with slips, and lines of every scale and with every kind of fault;
 //! municipalities of 1 to 400 sheets and of none or too many, within a 1:50 000 sheet and across several, with each kind of fault at each
 //! place, and sheets and local numbers beside theirs; each product at either end of each scale, holdings of one sheet side by side, lists
-//! of both kinds read by both readers, and first numbers about the counts of each kind; and some by chance.
+//! of both kinds read by both readers, and first numbers about the counts of each kind; deliveries of 1 to 4 096 sheets in many orders, of
+//! none and of too many, with each kind of fault at either end and in the middle and two at once, several sheets missing at once, and for
+//! windows that have no cover; and some by chance.
 //!
 //! The lines of compare/examples.txt are document 01's examples and cases of document 02, question and answer written out by hand: these
 //! answers are not asked of the paper, but must be its own.
@@ -172,15 +183,19 @@ fn ruled(first: u32, step: u32, count: usize) -> Vec<u32> {
     (0..count as u32).map(|k| first.wrapping_add(step.wrapping_mul(k))).collect()
 }
 
-/// The same, with another number in a place counted from 1 where one is told; none where it is not told so.
-fn ruled_but(first: i64, step: i64, count: i64, other: &[i64]) -> Option<Vec<u32>> {
-    let mut sheets = ruled(first as u32, step as u32, count as usize);
+/// Some sheets, with another number in a place counted from 1 where one is told; none where it is not told so.
+fn but(mut sheets: Vec<u32>, other: &[i64]) -> Option<Vec<u32>> {
     match *other {
         [] => {}
         [place, number] => *sheets.get_mut((place as usize).checked_sub(1)?)? = number as u32,
         _ => return None,
     }
     Some(sheets)
+}
+
+/// Those of a rule.
+fn ruled_but(first: i64, step: i64, count: i64, other: &[i64]) -> Option<Vec<u32>> {
+    but(ruled(first as u32, step as u32, count as usize), other)
 }
 
 /// Numbers in 32 bits.
@@ -334,6 +349,16 @@ impl Paper {
         format!("{}, {}", told(self.0.local_to_sheet(municipality, n, a, b)), told(local.map(spaced)))
     }
 
+    fn deliver(&self, scale: u32, window: Frame, delivery: &[u32]) -> String {
+        told(self.0.check_delivery(scale, window, delivery))
+    }
+
+    /// The sheets at some places of a cover, from its end on again from its start.
+    fn supply(&self, scale: u32, window: Frame, places: &[u32]) -> Vec<u32> {
+        let cover = self.0.cover(scale, window, paper::MOST).unwrap_or_default();
+        places.iter().map(|&place| (place as usize).checked_rem(cover.len()).map_or(0, |place| cover[place])).collect()
+    }
+
     /// The answer to a question; none where it is no question.
     fn answer(&self, question: &str) -> Option<String> {
         let (word, rest) = question.split_once(' ')?;
@@ -400,6 +425,14 @@ impl Paper {
             }
             ("Together", &[sheet, product]) => told(paper::holding(sheet as u32, product as u32)),
             ("Apart", &[holding]) => told(paper::holding_parts(holding as u32).map(|(sheet, product)| spaced([sheet, product]))),
+            ("Deliver", &[scale, west, east, south, north, count, ref sheets @ ..]) if sheets.len() == count as usize => {
+                self.deliver(scale as u32, Frame { west, east, south, north }, &narrow(sheets))
+            }
+            ("Supply", &[scale, west, east, south, north, first, step, count, ref other @ ..]) => {
+                let window = Frame { west, east, south, north };
+                let sheets = self.supply(scale as u32, window, &ruled(first as u32, step as u32, count as usize));
+                self.deliver(scale as u32, window, &but(sheets, other)?)
+            }
             _ => return None,
         })
     }

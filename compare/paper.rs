@@ -8,11 +8,12 @@
 #![allow(dead_code)] // neither of the two asks for all of it
 
 use std::cmp::Ordering;
+use std::collections::HashSet;
 use std::fmt;
 use std::ops::Range;
 
 /// A refusal: its number in the table "Numbers of refusal", and the value that it carries (10: the room needed; 4, 19, 20, 21 and 5: a
-/// place in the label; others: none).
+/// place in the label; 25 and 26: a place in the delivery; 27: a sheet; others: none).
 #[derive(Clone, Copy, Debug, PartialEq, Eq)]
 pub struct Refusal {
     pub number: u32,
@@ -1016,6 +1017,32 @@ fn place_holdings(list: &[u8], room: usize, placed: &mut Vec<u32>) -> Answer<()>
     }
 }
 
+// ---- Document 02, j) "Check what the scanning firm delivers" ----
+
+impl Division {
+    /// The count of the cover, where "sheet numbers claimed to cover a window at a scale, in any order" are accepted: "Accept exactly when
+    /// each sheet of the cover occurs once and nothing else does. Say the first bad place, or the first missing sheet in cover order.
+    /// Refusals: cover's 2, 7, 8, 9 first; then 25 a sheet not of the cover and 26 a sheet seen before, whichever place comes first; then 27
+    /// a sheet missing." Places count from 0. A number that is no sheet is not of the cover either.
+    pub fn check_delivery(&self, scale: u32, window: Frame, delivery: &[u32]) -> Answer<u64> {
+        let cover = self.cover(scale, window, MOST)?;
+        let of_cover: HashSet<u32> = cover.iter().copied().collect();
+        let mut seen = HashSet::new();
+        for (place, &sheet) in (0..).zip(delivery) {
+            if !of_cover.contains(&sheet) {
+                return Err(Refusal { number: 25, carries: Some(place) });
+            }
+            if !seen.insert(sheet) {
+                return Err(Refusal { number: 26, carries: Some(place) });
+            }
+        }
+        match cover.iter().find(|sheet| !seen.contains(sheet)) {
+            Some(&missing) => Err(Refusal { number: 27, carries: Some(missing as u64) }),
+            None => Ok(cover.len() as u64),
+        }
+    }
+}
+
 // ---- "Table of examples" and "Slips that look right", with readings of open points ----
 
 #[cfg(test)]
@@ -1961,5 +1988,146 @@ mod tests {
         assert_eq!(division().read_holdings(&[0x82, 0x40, 0x02, 0x80], 2), (vec![], refuse(24)));
         assert_eq!(division().read_holdings(&[0x82, 0x40, 0x01, 0x00], 2), (vec![1], refuse(24)));
         assert_eq!(division().read_holdings(&[0x81, 0x40, 0x02, 0x00], 1), (vec![], refuse(24)));
+    }
+
+    // ---- Document 02, j) ----
+
+    /// So many rows and columns of a scale, from a row and a column on.
+    fn block(scale: u32, row: usize, column: usize, rows: usize, columns: usize) -> Frame {
+        let Grid { west_to_east, north_to_south, .. } = division().grid(scale);
+        let (west, east) = (west_to_east[column], west_to_east[column + columns]);
+        Frame { west, east, south: north_to_south[row + rows], north: north_to_south[row] }
+    }
+
+    fn check_at_4(window: Frame, delivery: &[u32]) -> Answer<u64> {
+        division().check_delivery(4, window, delivery)
+    }
+
+    /// Document 01's cover, delivered.
+    #[test]
+    fn deliveries() {
+        let cover = [774, 775, 778, 779, 776, 777, 780, 781];
+        let window = Frame { west: 200_000_000, east: 260_000_000, south: 5_150_000_000, north: 5_170_000_000 };
+        assert_eq!(division().cover(4, window, 8), Ok(cover.to_vec()));
+        let good = [cover, lent(&cover).try_into().expect("eight"), [781, 780, 777, 776, 779, 778, 775, 774]];
+        for delivery in good {
+            assert_eq!(check_at_4(window, &delivery), Ok(8));
+        }
+        let cases: [(&[u32], u32, u64); 22] = [
+            (&[], 27, 774), (&[774], 27, 775), (&[774, 775], 27, 778), (&[775], 27, 774), (&[781, 779, 778, 775, 774], 27, 776),
+            // The first in cover order, which is not the least.
+            (&[774, 775, 780, 781], 27, 778), (&[774, 775, 779, 780, 781], 27, 778), (&[774, 775, 776, 777, 780, 781], 27, 778),
+            (&[774, 775, 778, 779, 776, 777, 780], 27, 781),
+            // Beside the window, of another scale, and no sheet at all.
+            (&[782], 25, 0), (&[774, 773], 25, 1), (&[774, 775, 814], 25, 2), (&[774, 0], 25, 1), (&[774, 174], 25, 1),
+            (&[774, 775, 778, 779, 776, 777, 780, LAST_SHEET + 1], 25, 7), (&[774, 775, 778, 779, 776, 777, 780, 781, u32::MAX], 25, 8),
+            (&[774, 774], 26, 1), (&[774, 775, 778, 774], 26, 3), (&[774, 775, 778, 779, 776, 777, 780, 774], 26, 7),
+            // Whichever place comes first; a strange one is strange where it stands first.
+            (&[774, 774, 782], 26, 1), (&[774, 782, 774], 25, 1), (&[774, 782, 782], 25, 1),
+        ];
+        for (delivery, number, value) in cases {
+            assert_eq!(check_at_4(window, delivery), refuse_at(number, value), "{delivery:?}");
+        }
+        for place in 0..8 {
+            let mut delivery = cover.to_vec();
+            let sheet = delivery.remove(place);
+            assert_eq!(check_at_4(window, &delivery), refuse_at(27, sheet as u64));
+            delivery.extend([sheet, sheet]);
+            assert_eq!(check_at_4(window, &delivery), refuse_at(26, 8));
+        }
+        // A place or a sheet of 0 is carried.
+        assert_eq!(check_at_4(window, &[0]), refuse_at(25, 0));
+        assert_eq!(division().check_delivery(1, window, &[]), refuse_at(27, 0));
+        assert_eq!(check_at_4(window, &[774]).expect_err("refused").to_string(), "refused 27 775");
+    }
+
+    /// All deliveries of up to five numbers over a few, where the cover is not in rising order: "Accept exactly when each sheet of the
+    /// cover occurs once and nothing else does", by counts over all numbers; a place is bad by what stands there and before it.
+    #[test]
+    fn every_delivery() {
+        let window = block(4, 0, 1, 2, 2);
+        let cover = [775, 778, 777, 780];
+        assert_eq!(division().cover(4, window, 4), Ok(cover.to_vec()));
+        let numbers = [775, 778, 777, 780, 776, 0, LAST_SHEET + 1, u32::MAX];
+        let mut accepted = 0;
+        for text in texts(&[0, 1, 2, 3, 4, 5, 6, 7], 5) {
+            let delivery: Vec<u32> = text.iter().map(|&place| numbers[place as usize]).collect();
+            let answer = check_at_4(window, &delivery);
+            let count = |number: u32| delivery.iter().filter(|&&other| other == number).count();
+            let exact = numbers.iter().all(|&number| count(number) == cover.contains(&number) as usize);
+            assert_eq!(answer.is_ok(), exact, "{delivery:?}");
+            let strange = |place: usize| !cover.contains(&delivery[place]);
+            let again = |place: usize| delivery[..place].contains(&delivery[place]);
+            let bad = (0..delivery.len()).find(|&place| strange(place) || again(place));
+            let missing = cover.into_iter().find(|&sheet| count(sheet) == 0);
+            let expected = match (bad, missing) {
+                (Some(place), _) => refuse_at(if strange(place) { 25 } else { 26 }, place as u64),
+                (None, Some(sheet)) => refuse_at(27, sheet as u64),
+                (None, None) => Ok(4),
+            };
+            assert_eq!(answer, expected, "{delivery:?}");
+            accepted += answer.is_ok() as u32;
+        }
+        assert_eq!(accepted, 24);
+    }
+
+    /// As many sheets as a cover may have, and deliveries that are longer.
+    #[test]
+    fn large_deliveries() {
+        for (scale, row, column) in [(5, 3, 4), (6, 0, 136), (7, 18, 20), (8, 686, 0), (9, 2_936, 1_936)] {
+            let window = block(scale, row, column, 64, 64);
+            let cover = division().cover(scale, window, MOST).expect("a cover");
+            assert_eq!(cover.len(), MOST);
+            let check = |delivery: &[u32]| division().check_delivery(scale, window, delivery);
+            let mut delivery = lent(&cover);
+            assert!(delivery != cover);
+            assert_eq!((check(&cover), check(&delivery)), (Ok(4_096), Ok(4_096)));
+            delivery.reverse();
+            assert_eq!(check(&delivery), Ok(4_096));
+            assert_eq!(check(&[&cover[..], &cover].concat()), refuse_at(26, 4_096));
+            assert_eq!(check(&[cover[4_095]; 9_000]), refuse_at(26, 1));
+            for place in [0, 1, 63, 64, 2_000, 4_032, 4_095] {
+                let with = |number: u32| [&cover[..place], &[number], &cover[place + 1..]].concat();
+                for strange in [LAST_SHEET + 1, u32::MAX, SCALES[scale as usize - 2].first] {
+                    assert_eq!(check(&with(strange)), refuse_at(25, place as u64));
+                }
+                // Twice with the right count, and the other missing.
+                let (other, later) = if place < 2_048 { (4_094, 4_094) } else { (5, place) };
+                assert_eq!(check(&with(cover[other])), refuse_at(26, later as u64));
+                assert_eq!(check(&[&cover[..place], &cover[place + 1..]].concat()), refuse_at(27, cover[place] as u64));
+                assert_eq!(check(&[&cover[..], &[cover[place]]].concat()), refuse_at(26, 4_096));
+                assert_eq!(check(&[&cover[..place], &cover[place + 1..], &[cover[place]]].concat()), Ok(4_096));
+            }
+        }
+    }
+
+    /// "Refusals: cover's 2, 7, 8, 9 first", whatever is delivered.
+    #[test]
+    fn covers_refused() {
+        let good = block(9, 0, 0, 64, 64);
+        let cover = division().cover(9, good, MOST).expect("a cover");
+        let area = Frame { west: AREA_WEST, east: AREA_EAST, south: AREA_SOUTH, north: AREA_NORTH };
+        let cases = [
+            (0, good, 2), (10, good, 2), (265, good, 2), (u32::MAX, good, 2), (0, Frame { east: good.west, ..good }, 2),
+            (9, Frame { east: good.west, ..good }, 7), (9, Frame { north: good.south, ..good }, 7), (9, Frame { west: i64::MAX, ..good }, 7),
+            (9, Frame { east: i64::MIN, ..good }, 7), (9, Frame { south: AREA_NORTH + 1, ..good }, 7),
+            (9, Frame { west: AREA_WEST - 1, ..good }, 8), (9, Frame { north: AREA_NORTH + 1, ..good }, 8),
+            (9, Frame { east: AREA_EAST + 1, ..good }, 8), (9, Frame { south: AREA_SOUTH - 1, ..good }, 8),
+            (9, Frame { west: i64::MIN, ..good }, 8), (9, Frame { south: i64::MIN, ..good }, 8), (9, Frame { east: i64::MAX, ..good }, 8),
+            (9, Frame { south: AREA_SOUTH - 1, ..area }, 8), (9, area, 9), (5, area, 9), (9, Frame { east: good.east + 1, ..good }, 9),
+            (9, Frame { south: good.south - 1, ..good }, 9), (9, block(9, 0, 0, 17, 241), 9), (9, block(9, 0, 0, 241, 17), 9),
+        ];
+        for (scale, window, number) in cases {
+            for delivery in [&[][..], &cover, &cover[1..], &[cover[0], cover[0]], &[u32::MAX], &[u32::MAX; 5_000]] {
+                assert_eq!(division().check_delivery(scale, window, delivery), refuse(number), "{scale} {window:?}");
+            }
+        }
+        // On the border, and with as many sheets as may be.
+        assert_eq!(division().check_delivery(9, good, &cover), Ok(4_096));
+        for (scale, sheets) in [(1, 24), (2, 150), (3, 600), (4, 2_400)] {
+            let delivery = division().cover(scale, area, MOST).expect("a cover");
+            assert_eq!(division().check_delivery(scale, area, &delivery), Ok(sheets));
+            assert_eq!(division().check_delivery(scale, area, &delivery[1..]), refuse_at(27, delivery[0] as u64));
+        }
     }
 }

@@ -317,6 +317,21 @@ fn holdings_from(first: u32, step: usize, count: usize) -> Vec<u32> {
     (first..=LAST_SHEET).step_by(step).flat_map(products).take(count).collect()
 }
 
+/// The orders in which a cover is delivered: its own and the other way round, by the numbers, and any.
+#[derive(Clone, Copy)]
+enum Order {
+    Cover,
+    Back,
+    Rising,
+    Any,
+}
+
+const ORDERS: [Order; 4] = [Order::Cover, Order::Back, Order::Rising, Order::Any];
+
+/// Rows and columns of about as many sheets as a cover may have, and of more than that, some by one sheet.
+const MANY_SHEETS: [(u64, u64); 9] = [(64, 64), (2_999, 1), (2_048, 2), (4, 1_024), (32, 128), (65, 63), (132, 31), (2, 2_000), (15, 273)];
+const TOO_MANY_SHEETS: [(u64, u64); 6] = [(65, 64), (64, 65), (241, 17), (17, 241), (2_049, 2), (3, 2_000)];
+
 /// All texts over some letters, of no letter up to so many.
 fn texts(letters: &[u8], most: u32) -> impl Iterator<Item = Vec<u8>> + '_ {
     let text = move |length: u32, choice: usize| (0..length).map(|k| letters[choice / letters.len().pow(k) % letters.len()]).collect();
@@ -404,6 +419,21 @@ fn with_marks(name: &str) -> Vec<Vec<u8>> {
     all
 }
 
+/// Every delivery that comes of another by one slip at some places: what stands there dropped, and each of some numbers in its stead, or in
+/// front of it.
+fn slips(delivery: &[u32], places: impl IntoIterator<Item = usize>, numbers: &[u32]) -> Vec<Vec<u32>> {
+    let with = |from: usize, to: usize, other: &[u32]| [&delivery[..from], other, &delivery[to..]].concat();
+    let mut all = Vec::new();
+    for place in places {
+        all.extend(numbers.iter().map(|&number| with(place, place, &[number])));
+        if place < delivery.len() {
+            all.push(with(place, place + 1, &[]));
+            all.extend(numbers.iter().map(|&number| with(place, place + 1, &[number])));
+        }
+    }
+    all
+}
+
 struct Asking<'a, 'b> {
     division: &'a Division,
     chance: Chance,
@@ -445,9 +475,14 @@ pub fn ask_all(division: &Division, asker: &mut Asker, seed: u64, long: bool) {
     asking.short_lists_of_holdings(if long { 5 } else { 4 });
     asking.each_byte();
     asking.each_cut(if long { 2_000 } else { 100 });
+    asking.short_deliveries(if long { 5 } else { 4 });
+    asking.small_deliveries(long);
+    asking.large_deliveries(if long { 12 } else { 1 });
+    asking.deliveries_refused();
     if long {
         asking.each_sheet();
         asking.each_local_number();
+        asking.each_sheet_delivered();
     }
     for _ in 0..times {
         // In turns, so that a fault of any kind is soon seen.
@@ -488,6 +523,7 @@ pub fn ask_all(division: &Division, asker: &mut Asker, seed: u64, long: bool) {
             }
             for _ in 0..20 {
                 asking.about_a_municipality();
+                asking.about_a_delivery();
             }
         }
     }
@@ -2391,5 +2427,380 @@ impl Asking<'_, '_> {
         let list = self.list(kind);
         let room = self.room_to_read(self.division.read_holdings(&list, 0));
         self.ask_to_read(&list, room);
+    }
+
+    // ---- Deliveries ----
+
+    fn ask_of_delivery(&mut self, scale: u32, window: Frame, delivery: &[u32]) {
+        self.ask(Question::CheckDelivery { scale, window, delivery: delivery.to_vec() });
+    }
+
+    /// How far the two edges of a window about so many sheets, of this side, are moved inwards, so that it still has a part of each.
+    fn inwards(&mut self, sheets: u64, side: i64) -> (i64, i64) {
+        let [one, other] = [(); 2].map(|()| match self.chance.below(6) {
+            0 => 1,
+            1 => side - 1,
+            2 => self.chance.from_to(0, side - 1),
+            _ => 0,
+        });
+        if sheets == 1 && one + other >= side { (one, 0) } else { (one, other) }
+    }
+
+    /// A window of so many rows and columns of a scale, from a row and a column on: to the sheets' edges, or only into these sheets.
+    fn window_on(&mut self, scale: u32, (row, column): (u64, u64), (rows, columns): (u64, u64)) -> Frame {
+        let facts = &SCALES[scale as usize - 1];
+        let (width, height) = (facts.width * 1000, facts.height * 1000);
+        let (from_west, from_east) = self.inwards(columns, width);
+        let (from_south, from_north) = self.inwards(rows, height);
+        Frame {
+            west: AREA_WEST + column as i64 * width + from_west,
+            east: AREA_WEST + (column + columns) as i64 * width - from_east,
+            south: AREA_NORTH - (row + rows) as i64 * height + from_south,
+            north: AREA_NORTH - row as i64 * height - from_north,
+        }
+    }
+
+    /// A row and a column of a scale at which four 1:50 000 sheets meet, or at scales 1 and 2 four of its own. There are two rows and two
+    /// columns at least on either side.
+    fn meeting(&mut self, scale: u32) -> (u64, u64) {
+        let (rows, columns) = self.division.grid_size(scale);
+        let mut border = |all: u64, of_50_000: u64| {
+            let side = (all / of_50_000).max(1);
+            let least = if side > 1 { 1 } else { 2 };
+            side * (least + self.chance.below((all / side + 1 - 2 * least) as usize) as u64)
+        };
+        (border(rows, 30), border(columns, 20))
+    }
+
+    /// A window of so many rows and columns of a scale, or as many as there are: anywhere, often at the area's border or across that of a
+    /// 1:50 000 sheet.
+    fn window_across(&mut self, scale: u32, (rows, columns): (u64, u64)) -> Frame {
+        let all = self.division.grid_size(scale);
+        let (rows, columns) = (rows.min(all.0), columns.min(all.1));
+        let meeting = self.meeting(scale);
+        let mut from = |border: u64, sheets: u64, all: u64| match self.chance.below(6) {
+            0 => 0,
+            1 => all - sheets,
+            2 => self.chance.below((all - sheets) as usize + 1) as u64,
+            _ => border.saturating_sub(1 + self.chance.below(sheets as usize) as u64).min(all - sheets),
+        };
+        let (row, column) = (from(meeting.0, rows, all.0), from(meeting.1, columns, all.1));
+        self.window_on(scale, (row, column), (rows, columns))
+    }
+
+    fn cover(&self, scale: u32, window: Frame) -> Vec<u32> {
+        self.division.cover(scale, window, MOST).expect("a cover")
+    }
+
+    fn ordered(&mut self, cover: &[u32], order: Order) -> Vec<u32> {
+        let mut delivery = cover.to_vec();
+        match order {
+            Order::Cover => {}
+            Order::Back => delivery.reverse(),
+            Order::Rising => delivery.sort_unstable(),
+            Order::Any => {
+                for place in 1..delivery.len() {
+                    delivery.swap(place, self.chance.below(place + 1));
+                }
+            }
+        }
+        delivery
+    }
+
+    /// What is not of the cover of a window: the sheets about its corners; of each scale those at the corners, those in the same row and
+    /// column, and those with the same place in the scale's own order; the numbers next to those of the cover; and numbers that are no
+    /// sheet, some of which are of the cover when they lose their upper bits.
+    fn strange_to(&self, scale: u32, window: Frame, cover: &[u32]) -> Vec<u32> {
+        let mut numbers: Vec<u32> = EXTREME_U32.to_vec();
+        for (e, n) in [window.west, window.east - 1].into_iter().flat_map(|e| [window.north, window.south + 1].map(|n| (e, n))) {
+            let corner = self.division.sheet_of_point(scale, e, n).expect("a sheet");
+            let place = self.division.place(corner).expect("a sheet");
+            numbers.extend(self.division.neighbours(corner).concat().into_iter().flatten());
+            for (other, facts) in (1..).zip(&SCALES) {
+                numbers.extend(self.division.sheet_of_point(other, e, n));
+                numbers.extend(self.division.sheet_on(other, place.row as i128, place.column as i128));
+                numbers.push(facts.first + (corner - SCALES[scale as usize - 1].first) % facts.sheets);
+            }
+            numbers.extend((23..32).map(|bit| corner | 1 << bit));
+        }
+        let least = cover.iter().min().expect("a sheet");
+        let most = cover.iter().max().expect("a sheet");
+        numbers.extend([least.wrapping_sub(1), most + 1]);
+        numbers.retain(|number| !cover.contains(number));
+        numbers.sort_unstable();
+        numbers.dedup();
+        numbers
+    }
+
+    /// All deliveries of up to so many numbers over a few, so that every kind of fault stands at every place, alone, beside others and
+    /// before others: over four others and the four sheets of a window across two 1:50 000 sheets side by side, where the cover's order is
+    /// not that of the numbers.
+    fn short_deliveries(&mut self, most: u32) {
+        for scale in 1..=9 {
+            let (row, column) = self.meeting(scale);
+            let window = self.window_on(scale, (row, column - 1), (2, 2));
+            let cover = self.cover(scale, window);
+            let strange = self.strange_to(scale, window, &cover);
+            let others = [self.chance.of(&strange), self.chance.of(&strange), LAST_SHEET + 1, u32::MAX];
+            let numbers = [&cover[..], &others].concat();
+            let places: Vec<u8> = (0..numbers.len() as u8).collect();
+            for text in texts(&places, most) {
+                let delivery: Vec<u32> = text.iter().map(|&place| numbers[place as usize]).collect();
+                self.ask_of_delivery(scale, window, &delivery);
+            }
+        }
+    }
+
+    /// What is delivered of a small cover: each slip with each of its sheets and some others, in each order; and of one order every slip
+    /// after every slip where they are wanted, so that faults of all kinds meet, in either order and with sheets missing or not.
+    fn ask_of_small_cover(&mut self, scale: u32, window: Frame, twice: bool) {
+        let cover = self.cover(scale, window);
+        let strange = self.strange_to(scale, window, &cover);
+        for number in &strange {
+            self.ask_of_delivery(scale, window, &[*number]);
+            self.ask_of_delivery(scale, window, &[&cover[..], &[*number]].concat());
+        }
+        for order in ORDERS {
+            let good = self.ordered(&cover, order);
+            let numbers = [&cover[..], &[self.chance.of(&strange), self.chance.of(&strange)]].concat();
+            self.ask_of_delivery(scale, window, &good);
+            for once in slips(&good, 0..=good.len(), &numbers) {
+                self.ask_of_delivery(scale, window, &once);
+                if twice && matches!(order, Order::Any) {
+                    for again in slips(&once, 0..=once.len(), &numbers) {
+                        self.ask_of_delivery(scale, window, &again);
+                    }
+                }
+            }
+        }
+        self.ask_of_parts(scale, window, &cover, 10);
+    }
+
+    /// Beginnings and ends of deliveries, each right behind the whole, so that what is missing still stands behind it where the box has it;
+    /// and so many times some of the sheets, so that several are missing, and all but two, of which the one that comes first in the cover has
+    /// the higher number, where such two are soon found.
+    fn ask_of_parts(&mut self, scale: u32, window: Frame, cover: &[u32], times: usize) {
+        for order in ORDERS {
+            let good = self.ordered(cover, order);
+            for cut in BTreeSet::from([0, 1, good.len() / 2, good.len() - 1]) {
+                self.ask_of_delivery(scale, window, &good);
+                self.ask_of_delivery(scale, window, &good[..cut]);
+                self.ask_of_delivery(scale, window, &good[cut..]);
+            }
+        }
+        for _ in 0..times {
+            let often = self.chance.of(&[2, 5, cover.len() / 3 + 2, cover.len() + 1]);
+            let mut some = self.ordered(cover, Order::Any);
+            if self.chance.one_in(2) {
+                some.retain(|_| self.chance.one_in(often));
+            } else {
+                some.retain(|_| !self.chance.one_in(often));
+            }
+            self.ask_of_delivery(scale, window, &some);
+            let mut pairs = (0..20).map(|_| [(); 2].map(|()| self.chance.below(cover.len())));
+            if let Some([one, other]) = pairs.find(|&[one, other]| one < other && cover[one] > cover[other]) {
+                let mut some = self.ordered(cover, Order::Any);
+                some.retain(|&sheet| sheet != cover[one] && sheet != cover[other]);
+                self.ask_of_delivery(scale, window, &some);
+            }
+        }
+    }
+
+    /// Windows of a sheet, of a row and of a column at the area's corners, and of some rows and columns there and where 1:50 000 sheets
+    /// meet.
+    fn small_deliveries(&mut self, long: bool) {
+        let two_slips = 4 + self.chance.below(6) as u32;
+        for scale in 1..=9 {
+            let (rows, columns) = self.division.grid_size(scale);
+            let (row, column) = self.meeting(scale);
+            let shapes = [
+                ((0, 0), (1, 1)),
+                ((0, columns - 1), (1, 1)),
+                ((rows - 1, 0), (1, 1)),
+                ((rows - 1, columns - 1), (1, 1)),
+                ((0, columns - 4), (1, 4)),
+                ((rows - 1, 0), (1, 4)),
+                ((0, 0), (5, 1)),
+                ((rows - 5, columns - 1), (5, 1)),
+                ((rows - 2, columns - 2), (2, 2)),
+                ((row, column - 1), (1, 2)),
+                ((row - 1, column), (2, 1)),
+                ((row - 1, column - 1), (2, 2)),
+                ((row, column - 2), (1, 4)),
+                ((row, column - 2), (2, 3)),
+            ];
+            for (from, sides) in shapes {
+                let window = self.window_on(scale, from, sides);
+                self.ask_of_small_cover(scale, window, sides == (2, 3) && (long || scale == two_slips));
+            }
+            for _ in 0..if long { 20 } else { 1 } {
+                let sides = (1 + self.chance.below(6) as u64, 1 + self.chance.below(6) as u64);
+                let window = self.window_across(scale, sides);
+                self.ask_of_small_cover(scale, window, false);
+            }
+        }
+    }
+
+    /// So many windows of each scale with about as many sheets as a cover may have, or with the whole area where that has no more: 64 rows of
+    /// 64, and other rows and columns, some from border to border.
+    fn large_deliveries(&mut self, times: usize) {
+        for scale in 1..=9 {
+            let (rows, columns) = self.division.grid_size(scale);
+            for time in 0..times {
+                let sides = if rows * columns <= MOST as u64 { (rows, columns) } else { (64, 64) };
+                let window = self.window_across(scale, sides);
+                self.ask_of_large_cover(scale, window, time > 0);
+                if scale > 4 && (time > 0 || scale == 9) {
+                    let sides = self.chance.of(&MANY_SHEETS);
+                    let window = self.window_across(scale, sides);
+                    self.ask_of_large_cover(scale, window, time > 0);
+                }
+            }
+        }
+    }
+
+    /// What is delivered of a large cover, in one order or in each: each slip at either end and in the middle; two slips anywhere; and the
+    /// whole with more behind it or before it, up to thousands.
+    fn ask_of_large_cover(&mut self, scale: u32, window: Frame, each_order: bool) {
+        let cover = self.cover(scale, window);
+        let strange = self.strange_to(scale, window, &cover);
+        let count = cover.len();
+        self.ask_of_parts(scale, window, &cover, 6);
+        let one = self.chance.below(ORDERS.len());
+        for (place, order) in ORDERS.into_iter().enumerate() {
+            if !each_order && place != one {
+                continue;
+            }
+            let good = self.ordered(&cover, order);
+            let ends = BTreeSet::from([0, count / 2, count - 1, count]);
+            let mut numbers = vec![good[0], good[count / 2], good[count - 1], cover[0], cover[count - 1]];
+            numbers.extend([(); 2].map(|()| self.chance.of(&strange)));
+            for once in slips(&good, ends.iter().copied(), &numbers) {
+                self.ask_of_delivery(scale, window, &once);
+            }
+            for _ in 0..20 {
+                let mut delivery = good.clone();
+                for _ in 0..2 {
+                    self.put_slip(&mut delivery, &strange);
+                }
+                self.ask_of_delivery(scale, window, &delivery);
+            }
+            // The cover twice over; a sheet of it, or a strange number, thousands of times; and all that is strange.
+            for more in [good.clone(), vec![self.chance.of(&cover); 4_000], vec![self.chance.of(&strange); 4_000], strange.clone()] {
+                self.ask_of_delivery(scale, window, &[&good[..], &more].concat());
+                self.ask_of_delivery(scale, window, &[&good[1..], &more].concat());
+                self.ask_of_delivery(scale, window, &[&more[..], &good].concat());
+            }
+        }
+    }
+
+    /// One slip of any kind at any place: a number dropped, another one put in or in its stead, one of the delivery again, beside itself or
+    /// far off, two numbers exchanged, or all from a place on dropped.
+    fn put_slip(&mut self, delivery: &mut Vec<u32>, strange: &[u32]) {
+        let place = self.chance.below(delivery.len() + 1);
+        let other = if self.chance.one_in(2) { self.chance.of(strange) } else { self.sheet() };
+        if place == delivery.len() {
+            delivery.push(delivery.first().copied().filter(|_| self.chance.one_in(2)).unwrap_or(other));
+            return;
+        }
+        let far = self.chance.below(delivery.len());
+        match self.chance.below(10) {
+            0 | 1 => drop(delivery.remove(place)),
+            2 => delivery.insert(place, other),
+            3 => delivery[place] = other,
+            4 => delivery.insert(place, delivery[place]),
+            5 => delivery.insert(place, delivery[far]),
+            6 => delivery[place] = delivery[far],
+            7 => delivery.swap(place, far),
+            8 => delivery.push(delivery[place]),
+            _ => delivery.truncate(place),
+        }
+    }
+
+    /// What has no cover, with all kinds of deliveries: numbers that are no scale; each edge of a window at the area's borders, at the other
+    /// edge, beside them and at the extremes; two faults at once; and windows with too many sheets.
+    fn deliveries_refused(&mut self) {
+        let area = Frame { west: AREA_WEST, east: AREA_EAST, south: AREA_SOUTH, north: AREA_NORTH };
+        for scale in 1..=9 {
+            let good = self.window_across(scale, (2, 2));
+            let cover = self.cover(scale, good);
+            let none = (4..32).map(|bit| scale | 1 << bit).chain(EXTREME_U32).chain([0, 10, 11]);
+            for scale in none.filter(|scale| !(1..=9).contains(scale)) {
+                for window in [good, area, Frame { east: good.west, ..good }, Frame { north: i64::MAX, ..good }] {
+                    self.ask_of_delivery(scale, window, &cover);
+                    self.ask_of_delivery(scale, window, &[]);
+                }
+            }
+            let near = [good.west, good.east, good.south, good.north].into_iter().chain(BORDERS).flat_map(|edge| edge - 1..=edge + 1);
+            for edge in near.chain(EXTREME_I64) {
+                let windows = [
+                    Frame { west: edge, ..good },
+                    Frame { east: edge, ..good },
+                    Frame { south: edge, ..good },
+                    Frame { north: edge, ..good },
+                    Frame { west: edge, ..area },
+                    Frame { east: edge, ..area },
+                    Frame { south: edge, ..area },
+                    Frame { north: edge, ..area },
+                    Frame { west: edge, north: good.south, ..good },
+                    Frame { west: good.east, north: edge, ..good },
+                ];
+                for window in windows {
+                    let own = self.division.cover(scale, window, MOST).unwrap_or_default();
+                    self.ask_of_delivery(scale, window, &cover);
+                    self.ask_of_delivery(scale, window, &own);
+                    self.ask_of_delivery(scale, window, &[u32::MAX]);
+                }
+            }
+            let (rows, columns) = self.division.grid_size(scale);
+            let whole = self.window_across(scale, (64, 64));
+            let most = self.cover(scale, whole);
+            let fits = |sides: &(u64, u64)| sides.0 <= rows && sides.1 <= columns;
+            for sides in TOO_MANY_SHEETS.into_iter().filter(fits).chain([(rows, columns)]) {
+                let window = self.window_across(scale, sides);
+                for delivery in [&[][..], &cover, &most, &[most[0]; 2], &[u32::MAX; 4_097]] {
+                    self.ask_of_delivery(scale, window, delivery);
+                }
+            }
+        }
+    }
+
+    /// Every sheet there is, in covers side by side, in any order; and the same with a slip or two.
+    fn each_sheet_delivered(&mut self) {
+        for scale in 1..=9 {
+            let (rows, columns) = self.division.grid_size(scale);
+            for row in (0..rows).step_by(64) {
+                for column in (0..columns).step_by(64) {
+                    let window = self.window_on(scale, (row, column), (64.min(rows - row), 64.min(columns - column)));
+                    let cover = self.cover(scale, window);
+                    let strange = self.strange_to(scale, window, &cover);
+                    let mut delivery = self.ordered(&cover, Order::Any);
+                    self.ask_of_delivery(scale, window, &delivery);
+                    for _ in 0..2 {
+                        self.put_slip(&mut delivery, &strange);
+                        self.ask_of_delivery(scale, window, &delivery);
+                    }
+                }
+            }
+        }
+    }
+
+    fn about_a_delivery(&mut self) {
+        let scale = self.scale();
+        let window = self.window(if (1..=9).contains(&scale) { scale } else { 4 });
+        let (cover, strange) = match self.division.cover(scale, window, MOST) {
+            Ok(cover) => {
+                let strange = self.strange_to(scale, window, &cover);
+                (cover, strange)
+            }
+            Err(_) => (self.set(), EXTREME_U32.to_vec()),
+        };
+        let order = self.chance.of(&ORDERS);
+        let mut delivery = self.ordered(&cover, order);
+        self.ask_of_delivery(scale, window, &delivery);
+        for _ in 0..3 {
+            self.put_slip(&mut delivery, &strange);
+            self.ask_of_delivery(scale, window, &delivery);
+        }
     }
 }

@@ -1,5 +1,5 @@
-/* Qubathimi for C and for any language that calls C: map sheets of nine scales, their frames, labels, catalogue lines, official names,
- * local numbers, holdings and shelf lists.
+/* Qubathimi for C and for any language that calls C: map sheets of nine scales, their frames, covers and deliveries, labels, catalogue
+ * lines, official names, local numbers, holdings and shelf lists.
  *
  * `rt staticlib qubathimi_c` proves the functions and writes target/staticlib/libqubathimi_c.a, for x86-64 Linux; link it with a program
  * that includes this header. Of the C library it calls memcpy and memset and nothing else. It allocates nothing, needs no setting up and
@@ -8,12 +8,12 @@
  *
  * The convention. Seven functions cannot refuse and have their answer as the result: qubathimi_width, _height, _rows, _columns, _first,
  * _last and _scale_of; and so has qubathimi_same_name, which is true or false. For all others:
- *  - The result is 0 where the function answers, and otherwise the number of the refusal, 1 to 24 (enum qubathimi_refusal). Where several
+ *  - The result is 0 where the function answers, and otherwise the number of the refusal, 1 to 27 (enum qubathimi_refusal). Where several
  *    are due, the first in the order given at the function is the one.
  *  - An answer that is one number goes to *value, and so does the count of what is laid into lent room. *value is written in every
- *    case: of a refusal it is what the refusal carries, the room needed with 10, a place in the label with 4, 5, 19, 20 and 21, and
- *    otherwise 0. A place counts bytes from 0, so there a 0 is the first byte. A sheet in *value always fits the uint32_t that functions
- *    take.
+ *    case: of a refusal it is what the refusal carries, the room needed with 10, a place in the label with 4, 5, 19, 20 and 21, a place in
+ *    the delivery with 25 and 26, the missing sheet with 27, and otherwise 0. Places count from 0, so there a 0 is the first byte or the
+ *    first sheet. A sheet in *value always fits the uint32_t that functions take.
  *  - An answer of several numbers goes to a pointer for each. A refusal leaves what they point to as it was.
  *  - Room is lent as a pointer and the number of places (not bytes) there. A refusal writes nothing into it, save what
  *    qubathimi_read_list and qubathimi_read_holdings have placed; places beyond an answer keep their values.
@@ -83,7 +83,10 @@ enum qubathimi_refusal {
     QUBATHIMI_NAMES_NO_SCALE = 21, /* a label's first number or its count of fields unknown; carries 0 */
     QUBATHIMI_NOT_250_000 = 22,    /* not a 1:250 000 sheet */
     QUBATHIMI_NO_MUNICIPALITY = 23, /* list of a municipality empty or above 400 sheets, or with a sheet that is not 1:2 000 */
-    QUBATHIMI_NO_PRODUCT = 24      /* a product that the scale does not have: above 2, or 2 at another scale than 6 and 7 */
+    QUBATHIMI_NO_PRODUCT = 24,     /* a product that the scale does not have: above 2, or 2 at another scale than 6 and 7 */
+    QUBATHIMI_NOT_OF_COVER = 25,   /* a number in a delivery that is no sheet of the cover; carries its place */
+    QUBATHIMI_SEEN_BEFORE = 26,    /* a sheet that stands in a delivery before; carries the place where it stands again */
+    QUBATHIMI_MISSING = 27         /* a sheet of the cover that is not delivered; carries the first in cover order */
 };
 
 /* ---- Scales. Of a number that is no scale, not 1 to 9, each of these is 0. ---- */
@@ -160,6 +163,13 @@ uint32_t qubathimi_neighbours(uint32_t sheet, uint32_t *room, size_t length, uin
  * *value is their count, at most 4 096. A window's edges may lie on the area's border. Refusals: 2; 7; 8; 9; 10 with the count. */
 uint32_t qubathimi_cover(uint32_t scale, int64_t west, int64_t east, int64_t south, int64_t north, uint32_t *room, size_t length,
                          uint64_t *value);
+
+/* Whether `sheets` are the cover of a window at a scale, as a scanning firm should deliver it: each of its sheets once, in any order, and
+ * nothing else. *value is the count of the cover. A delivery may have any length, also 0 and above 4 096, and any numbers. Refusals: 2; 7; 8;
+ * 9; then of the first bad place 25, also for a number that is no sheet at all, or 26, with the place; then 27 with the first missing sheet,
+ * rows from the north, each row from the west. examples/delivery.c checks a text of labels by it. */
+uint32_t qubathimi_check_delivery(uint32_t scale, int64_t west, int64_t east, int64_t south, int64_t north, const uint32_t *sheets,
+                                  size_t count, uint64_t *value);
 
 /* ---- Labels ---- */
 

@@ -11,7 +11,7 @@ use std::time::Instant;
 mod numbers;
 mod sheets;
 use numbers::Numbers;
-use sheets::{LAST_HOLDING, LAST_SHEET, LONGEST_LABEL, MOST_OF_MUNICIPALITY, MOST_SHEETS, SCALES};
+use sheets::{Window, LAST_HOLDING, LAST_SHEET, LONGEST_LABEL, MOST_OF_MUNICIPALITY, MOST_SHEETS, SCALES};
 
 const SEED: u64 = 1;
 const LABELS: usize = 65_536;
@@ -22,6 +22,8 @@ const SMALL_SETS: usize = 4_096;
 const LARGE_MUNICIPALITIES: usize = 16;
 const SMALL_MUNICIPALITIES: usize = 1_024;
 const LOCAL: usize = 2_048;
+const LARGE_DELIVERIES: usize = 16;
+const SMALL_DELIVERIES: usize = 4_096;
 /// The bytes of the longest list: two for its count, and four for each sheet.
 const LONGEST_LIST: usize = 2 + 4 * MOST_SHEETS;
 
@@ -37,6 +39,16 @@ extern "C" {
     fn qubathimi_read_holdings(list: *const u8, length: usize, room: *mut u32, places: usize, placed: &mut u64, value: &mut u64) -> u32;
     fn qubathimi_local_to_sheet(municipality: *const u32, count: usize, n: u32, a: u32, b: u32, value: &mut u64) -> u32;
     fn qubathimi_sheet_to_local(municipality: *const u32, count: usize, sheet: u32, n: &mut u32, a: &mut u32, b: &mut u32) -> u32;
+    fn qubathimi_check_delivery(
+        scale: u32,
+        west: i64,
+        east: i64,
+        south: i64,
+        north: i64,
+        sheets: *const u32,
+        count: usize,
+        value: &mut u64,
+    ) -> u32;
 }
 
 // ---- the questions
@@ -242,6 +254,54 @@ fn local_sheets<'a>(municipalities: &'a [Vec<u32>], numbers: &mut Numbers) -> Ve
     (0..LOCAL).map(|_| any_local()).collect()
 }
 
+#[derive(Debug)]
+struct Delivery {
+    scale: u32,
+    window: Window,
+    sheets: Vec<u32>,
+}
+
+/// So many rows and columns of a scale, anywhere, delivered in any order; of the outermost ones the window has half or more.
+fn delivery(scale: u64, rows: u64, columns: u64, numbers: &mut Numbers) -> Delivery {
+    let scale = scale as u32;
+    let s = &SCALES[scale as usize - 1];
+    let [width, height] = [s.width, s.height].map(|side| side as u64 * 1_000);
+    let west = 200_000_000 + numbers.draw(0, 600_000_000 / width - columns) * width;
+    let north = 5_170_000_000 - numbers.draw(0, 600_000_000 / height - rows) * height;
+    let mut sheets: Vec<u32> = Vec::new();
+    for (row, column) in (0..rows).flat_map(|row| (0..columns).map(move |column| (row, column))) {
+        sheets.push(sheets::sheet_at(scale, (west + column * width) as i64, (north - row * height) as i64).unwrap());
+        sheets.swap(numbers.draw(0, row * columns + column) as usize, (row * columns + column) as usize);
+    }
+    let mut off = |side: u64| numbers.draw(0, side / 2 - 1);
+    let window = Window {
+        west: (west + off(width)) as i64,
+        east: (west + columns * width - off(width)) as i64,
+        south: (north - rows * height + off(height)) as i64,
+        north: (north - off(height)) as i64,
+    };
+    Delivery { scale, window, sheets }
+}
+
+/// One sheet dropped, another one in its stead, which may be of the cover, or it comes twice.
+fn put_fault(sheets: &mut Vec<u32>, numbers: &mut Numbers) {
+    let at = numbers.draw(0, sheets.len() as u64 - 1) as usize;
+    match numbers.draw(0, 2) {
+        0 => drop(sheets.remove(at)),
+        1 => sheets[at] += 1,
+        _ => sheets.push(sheets[at]),
+    }
+}
+
+/// So many deliveries, every tenth with a fault.
+fn deliveries(count: usize, any: fn(&mut Numbers) -> Delivery, numbers: &mut Numbers) -> Vec<Delivery> {
+    let mut deliveries: Vec<Delivery> = (0..count).map(|_| any(numbers)).collect();
+    for faulty in deliveries.iter_mut().skip(9).step_by(10) {
+        put_fault(&mut faulty.sheets, numbers);
+    }
+    deliveries
+}
+
 // ---- the same call of both: a status, and the value with it
 
 #[inline(never)]
@@ -394,6 +454,18 @@ fn our_sheet_to_local(&(municipality, sheet): &(&[u32], u32)) -> (u32, u64) {
     (status, one_value([n, a, b]))
 }
 
+#[inline(never)]
+fn rust_check_delivery(asked: &Delivery) -> (u32, u64) {
+    told(sheets::check_delivery(asked.scale, &asked.window, &asked.sheets))
+}
+
+fn our_check_delivery(Delivery { scale, window, sheets }: &Delivery) -> (u32, u64) {
+    let Window { west, east, south, north } = *window;
+    let mut value = 0;
+    let status = unsafe { qubathimi_check_delivery(*scale, west, east, south, north, sheets.as_ptr(), sheets.len(), &mut value) };
+    (status, value)
+}
+
 // ---- the race
 
 /// Asks both every question, and stops at the first that they answer differently. Lent room is compared whole.
@@ -535,5 +607,15 @@ fn main() {
         let questions = local_sheets(municipalities, numbers);
         let (ours, rust) = (our_sheet_to_local, rust_sheet_to_local);
         both.race(&format!("sheet to local numbers, {size}"), &questions, times, 0, |q, _: &mut [u8]| ours(q), |q, _| rust(q));
+    }
+
+    // Numbers of their own, as for points in metres.
+    let numbers = &mut Numbers(SEED);
+    let large = deliveries(LARGE_DELIVERIES, |numbers| delivery(numbers.draw(5, 9), 64, 64, numbers), numbers);
+    let any_small = |numbers: &mut Numbers| delivery(numbers.draw(1, 9), numbers.draw(1, 4), numbers.draw(1, 4), numbers);
+    let small = deliveries(SMALL_DELIVERIES, any_small, numbers);
+    for (size, deliveries) in [("4 096 sheets", &large), ("1 to 16 sheets", &small)] {
+        let (ours, rust) = (our_check_delivery, rust_check_delivery);
+        both.race(&format!("delivery check, {size}"), deliveries, 8, 0, |q, _: &mut [u8]| ours(q), |q, _| rust(q));
     }
 }

@@ -1,9 +1,11 @@
-//! The definition in plain Rust, for its time alone: labels, points, also in metres, names, local numbers and shelf lists of both kinds.
+//! The definition in plain Rust, for its time alone: labels, points, also in metres, names, local numbers, shelf lists of both kinds and
+//! deliveries.
 //!
 //! Written as a careful Rust programmer would write it: one table, one pass over the bytes, no allocation, and a second pass only for the
 //! place at which a label is at fault, and for names of which not all bytes are the same. A municipality is not sorted: what its list's
-//! order tells already is used, and the rest is counted. A refusal is its number, with that place beside it, or the room needed where lent
-//! room can be too short. Each program here uses a part of it.
+//! order tells already is used, and the rest is counted. Of a delivery each sheet is marked at its place in the cover, which its row and
+//! column tell, worked out with numbers that are known for each scale. A refusal is its number, with that place beside it, the room needed
+//! where lent room can be too short, or the sheet that is missing. Each program here uses a part of it.
 #![allow(dead_code)]
 
 use std::ops::Range;
@@ -568,4 +570,119 @@ pub fn read_holdings(list: &[u8], room: &mut [u32]) -> Read {
         Ok(_) => (Err((12, 0)), 0),
         Err(why) => (Err((why, 0)), 0),
     }
+}
+
+// ---- deliveries
+
+/// In millimetres.
+#[derive(Clone, Copy, Debug)]
+pub struct Window {
+    pub west: i64,
+    pub east: i64,
+    pub south: i64,
+    pub north: i64,
+}
+
+/// A scale's sheets, by the first number and the count, and of them the block of rows and columns that is the cover.
+struct Cover {
+    first: u32,
+    sheets: u32,
+    row: u32,
+    column: u32,
+    rows: u32,
+    columns: u32,
+}
+
+/// Row and column of a sheet on the whole grid, by its place among the sheets of its scale: where they are made from the area, and where each
+/// sheet of the scale above is cut into `SIDE` rows of as many.
+#[inline(always)]
+fn of_area<const COLUMNS: u32>(place: u32) -> (u32, u32) {
+    (place / COLUMNS, place % COLUMNS)
+}
+
+#[inline(always)]
+fn of_parent<const SIDE: u32>(place: u32, above: impl Fn(u32) -> (u32, u32)) -> (u32, u32) {
+    let part = place % (SIDE * SIDE);
+    let (row, column) = above(place / (SIDE * SIDE));
+    (row * SIDE + part / SIDE, column * SIDE + part % SIDE)
+}
+
+/// Marks each sheet at its place in the cover; or 25 or 26 at the first bad place.
+#[inline(always)]
+fn mark(cover: &Cover, delivery: &[u32], marks: &mut [bool], on: impl Fn(u32) -> (u32, u32)) -> Result<(), (u32, usize)> {
+    for (at, &sheet) in delivery.iter().enumerate() {
+        let place = sheet.wrapping_sub(cover.first);
+        if place >= cover.sheets {
+            return Err((25, at));
+        }
+        let (row, column) = on(place);
+        let (row, column) = (row.wrapping_sub(cover.row), column.wrapping_sub(cover.column));
+        if row >= cover.rows || column >= cover.columns {
+            return Err((25, at));
+        }
+        let mark = &mut marks[(row * cover.columns + column) as usize];
+        if *mark {
+            return Err((26, at));
+        }
+        *mark = true;
+    }
+    Ok(())
+}
+
+/// The count of the cover; or the refusal, and the place, or the sheet that is missing.
+pub fn check_delivery(scale: u32, window: &Window, delivery: &[u32]) -> Result<usize, (u32, usize)> {
+    const WEST_END: i64 = WEST as i64 * 1_000;
+    const NORTH_END: i64 = NORTH as i64 * 1_000;
+    const FEW: usize = 64;
+    let Some(s) = SCALES.get((scale as usize).wrapping_sub(1)) else { return Err((2, 0)) };
+    let &Window { west, east, south, north } = window;
+    if east <= west || north <= south {
+        return Err((7, 0));
+    }
+    if west < WEST_END || east > EAST as i64 * 1_000 || south < SOUTH as i64 * 1_000 || north > NORTH_END {
+        return Err((8, 0));
+    }
+    // Within the area all differences fit 32 bits.
+    let (width, height) = (s.width * 1_000, s.height * 1_000);
+    let (row, column) = ((NORTH_END - north) as u32 / height, (west - WEST_END) as u32 / width);
+    let rows = (NORTH_END - south - 1) as u32 / height - row + 1;
+    let columns = (east - WEST_END - 1) as u32 / width - column + 1;
+    let count = (rows * columns) as usize;
+    if count > MOST_SHEETS {
+        return Err((9, 0));
+    }
+    let end = SCALES.get(scale as usize).map_or(LAST_SHEET + 1, |next| next.first);
+    let cover = Cover { first: s.first, sheets: end - s.first, row, column, rows, columns };
+    // Most covers are small, and few marks are sooner cleared than all.
+    let (mut few, mut all);
+    let marks = if count <= FEW {
+        few = [false; FEW];
+        &mut few[..]
+    } else {
+        all = [false; MOST_SHEETS];
+        &mut all[..]
+    };
+    let of_50_000 = of_area::<20>;
+    let of_25_000 = |place| of_parent::<2>(place, of_50_000);
+    let of_2_000 = |place| of_parent::<25>(place, of_50_000);
+    let of_1_000 = |place| of_parent::<2>(place, of_2_000);
+    match scale {
+        1 => mark(&cover, delivery, marks, of_area::<4>),
+        2 => mark(&cover, delivery, marks, of_area::<10>),
+        3 => mark(&cover, delivery, marks, of_50_000),
+        4 => mark(&cover, delivery, marks, of_25_000),
+        5 => mark(&cover, delivery, marks, |place| of_parent::<5>(place, of_50_000)),
+        6 => mark(&cover, delivery, marks, |place| of_parent::<5>(place, of_25_000)),
+        7 => mark(&cover, delivery, marks, of_2_000),
+        8 => mark(&cover, delivery, marks, of_1_000),
+        _ => mark(&cover, delivery, marks, |place| of_parent::<2>(place, of_1_000)),
+    }?;
+    // All were of the cover and none twice, so that just as many are all of it.
+    if delivery.len() == count {
+        return Ok(count);
+    }
+    let missing = marks.iter().position(|&mark| !mark).unwrap() as u32;
+    let (row, column) = (row + missing / columns, column + missing % columns);
+    let sheet = sheet_at(scale, WEST_END + (column * width) as i64, NORTH_END - (row * height) as i64);
+    Err((27, sheet.unwrap() as usize))
 }

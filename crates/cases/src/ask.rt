@@ -7,6 +7,7 @@ use crate::locals;
 use crate::metres;
 use crate::sheets;
 use crate::spelt;
+use crate::supplied;
 use crate::write;
 use crate::write::OUT;
 
@@ -74,6 +75,8 @@ fn requested(kind: u8, s: &[u8]) {
         b'y' => known::yours(s),
         b'L' => locals::local(s),
         b'M' => locals::municipality(s),
+        b'D' => supplied::deliver(s),
+        b'S' => supplied::supply(s),
         _ => capital(kind, s),
     }
 }

@@ -13,6 +13,7 @@ mod read;
 mod room;
 mod sheets;
 mod spelt;
+mod supplied;
 mod write;
 
 use libc::STDIN_FILENO;

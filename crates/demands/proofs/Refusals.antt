@@ -14,6 +14,7 @@ use Rattle.division.specs.Grid.{area, owns}
 use Rattle.division.specs.Sheet.{isSheet, scaleOf, placeOf, onGrid, locate, sheetOn, sheetAt, cornersOf}
 use Rattle.relations.specs.Relations.{isPart, parent, child, stays, walk, step, offset}
 use Rattle.division.specs.Cover.{sheetsIn, cover, blockIn}
+use Rattle.delivery.specs.Delivery.{checkDelivery}
 use Rattle.frame.specs.Metres.{frameOf, sheetAtMetres, frameAtMetres}
 use Rattle.frame.proofs.PointTheorems.{answered}
 use Rattle.frame.proofs.FrameTheorems.{frame-exact}
@@ -36,7 +37,7 @@ use Rattle.shelf.specs.Kind.{ofSheets, ofHoldings, kindOf}
 use Rattle.shelf.specs.Writing.{listBytes, bytesIn, writeIn, lengthIn}
 use Rattle.shelf.proofs.HoldingsTheorems.{read-as}
 use Rattle.demands.specs.Refusals.{Gives, answers, RefusalsNumbered, PlacesTold}
-use Rattle.demands.proofs.GivesLaws.{test-gives, then-gives, line-gives, found-gives, answered-gives, metres-give, laid-gives, label-gives, line-of-gives, cover-gives, rising-gives, set-gives, count-gives, judge-gives, reading-gives}
+use Rattle.demands.proofs.GivesLaws.{test-gives, then-gives, line-gives, found-gives, answered-gives, metres-give, laid-gives, label-gives, line-of-gives, cover-gives, delivery-gives, rising-gives, set-gives, count-gives, judge-gives, reading-gives}
 
 name-gives : (n room : ℕ) → Gives (3 ∷ 22 ∷ 10 ∷ []) (writeName n room)
 unfolding writeName
@@ -88,7 +89,7 @@ judged-gives kind Writing number = judge-gives kind 3 number refl refl
 judged-gives kind Reading number = judge-gives kind 13 number refl refl
 
 pub refusals-numbered : RefusalsNumbered
-unfolding sheetAt locate sheetOn cornersOf frameOf frameAtMetres parent child step walk offset cover blockIn writeLabel labelLength nameTold checkLine checkAt writeIn lengthIn holding partsOf localToSheet sheetToLocal
+unfolding sheetAt locate sheetOn cornersOf frameOf frameAtMetres parent child step walk offset cover blockIn writeLabel labelLength nameTold checkLine checkAt writeIn lengthIn holding partsOf localToSheet sheetToLocal checkDelivery
 refusals-numbered = record {
   points = λ s e n. line-gives 2 (isScale s) refl (line-gives 1 (owns area e n) refl answers);
   corners = λ n. line-gives 3 (isSheet n) refl answers;
@@ -108,6 +109,7 @@ refusals-numbered = record {
   offsets = λ a b. line-gives 3 (isSheet a) refl (line-gives 3 (isSheet b) refl (line-gives 6 (scaleOf a =? scaleOf b) refl answers));
   covers = λ s w room. then-gives (cover-gives refl refl refl refl s w) (laid-gives (sheetsIn s w) room refl);
   blocks = λ s w. then-gives (cover-gives refl refl refl refl s w) answers;
+  deliveries = λ s w sheets. then-gives (cover-gives refl refl refl refl s w) (delivery-gives refl refl refl (sheetsIn s w) sheets);
   labels = label-gives refl refl refl refl refl;
   labelled = λ n room. line-gives 3 (isSheet n) refl (laid-gives (labelOf n) room refl);
   measured = λ n. line-gives 3 (isSheet n) refl answers;

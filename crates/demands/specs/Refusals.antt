@@ -14,6 +14,7 @@ use Rattle.division.specs.declared.Place.{Place}
 use Rattle.division.specs.Sheet.{locate, sheetOn, sheetAt, cornersOf}
 use Rattle.relations.specs.Relations.{parent, child, step, offset}
 use Rattle.division.specs.Cover.{cover, blockIn}
+use Rattle.delivery.specs.Delivery.{checkDelivery}
 use Rattle.frame.specs.Metres.{frameOf, sheetAtMetres, frameAtMetres}
 use Rattle.local.specs.declared.Local.{Local}
 use Rattle.local.specs.Numbers.{localToSheet, sheetToLocal}
@@ -55,6 +56,7 @@ pub record RefusalsNumbered : Type 0 where
   pub offsets : (a b : ℕ) → Gives (3 ∷ 6 ∷ []) (offset a b)
   pub covers : (s : ℕ) (w : Edges) (room : ℕ) → Gives (2 ∷ 7 ∷ 8 ∷ 9 ∷ 10 ∷ []) (cover s w room)
   pub blocks : (s : ℕ) (w : Edges) → Gives (2 ∷ 7 ∷ 8 ∷ 9 ∷ []) (blockIn s w)
+  pub deliveries : (s : ℕ) (w : Edges) (sheets : List ℕ) → Gives (2 ∷ 7 ∷ 8 ∷ 9 ∷ 25 ∷ 26 ∷ 27 ∷ []) (checkDelivery s w sheets)
   -- document 02, b): "Refusals: 4, 19, 20, 21, 5, then as before"
   pub labels : (label : List ℕ) → Gives (4 ∷ 19 ∷ 20 ∷ 21 ∷ 5 ∷ []) (readLabel label)
   pub labelled : (n room : ℕ) → Gives (3 ∷ 10 ∷ []) (writeLabel n room)

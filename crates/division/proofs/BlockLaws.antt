@@ -68,7 +68,7 @@ module _ {s room : ℕ} {down across : Span} (f : BlockRoom s down across room) 
     pub placed : OnGrid s (record { row = down .first + i / across .count; column = across .first + i % across .count })
     placed = record { scale = f .scale; in-rows = omega (arith, in-row, f .in-rows); in-columns = omega (arith, in-column, f .in-columns) }
 
-    at-index : getD (blockOf s down across) i 0 ≡ sheetIn s (down .first + i / across .count) (across .first + i % across .count)
+    pub at-index : getD (blockOf s down across) i 0 ≡ sheetIn s (down .first + i / across .count) (across .first + i % across .count)
     at-index =
         let m = length-from (down .first) (down .count) in
         let n = length-from (across .first) (across .count) in

@@ -87,8 +87,14 @@ module _ (s : ℕ) (w : Edges) (b : Block) (e : blockIn s w ≡ answer b) where
   is : b ≡ record { down = spanned (rowsIn s w); across = spanned (columnsIn s w) }
   is = sym (same-answer (told .1))
 
+  pub passes : coverable s w ≡ answer tt
+  passes = told .0
+
   of : Coverable s w
-  of = is-coverable (told .0)
+  of = is-coverable passes
+
+  pub block-is : blockOf s (b .down) (b .across) ≡ sheetsIn s w
+  block-is = rw is (sym (listed (of .seen)))
 
   size : b .down .count * b .across .count ≡ length (sheetsIn s w)
   size = rw is (sym (count-is s w))
@@ -98,7 +104,7 @@ module _ (s : ℕ) (w : Edges) (b : Block) (e : blockIn s w ≡ answer b) where
 
   laid-so : (room : ℕ) → cover s w room ≡ laid (sheetsIn s w) room
   unfolding cover
-  laid-so room = rw (told .0)
+  laid-so room = rw passes
 
   pub short : (room : ℕ) → room < b .down .count * b .across .count → cover s w room ≡ refused 10 (b .down .count * b .across .count)
   short room l = laid-so room ∙ rw (← size, lt-leb (b .down .count * b .across .count) room l)
@@ -121,5 +127,4 @@ module _ (s : ℕ) (w : Edges) (b : Block) (e : blockIn s w ≡ answer b) where
 
     pub written : (new : List ℕ) → new ≡ sets old 0 (blockOf s (b .down) (b .across)) → new ≡ roomAfter (cover s w (length old)) old
     written new f =
-        let g : blockOf s (b .down) (b .across) ≡ sheetsIn s w = rw is (sym (listed (of .seen))) in
-        f ∙ rw (good, g) (sets-eq (sheetsIn s w) old 0 (omega (arith, size)) ∙ rw zero-add)
+        f ∙ rw (good, block-is) (sets-eq (sheetsIn s w) old 0 (omega (arith, size)) ∙ rw zero-add)

@@ -1,14 +1,43 @@
--- What is in a run of numbers, in what a test keeps of a list, and in a block of rows and columns. Assumes nothing.
+-- What is in a list, in a run of numbers, in what a test keeps of a list, and in a block of rows and columns. Assumes nothing.
 use mathlib.Core.Path.{_≡_, refl, sym, ap, _∙_}
-use mathlib.Core.Bool.{Bool, true, false, cond}
+use mathlib.Core.Bool.{Bool, true, false, cond, _||_}
 use mathlib.Core.Logic.{⊎-elim}
 use mathlib.Core.List.{List, [], _∷_, map, flatMap, List·Memᴰ, List·Memᴰ·head, List·Memᴰ·tail, List·Memᴰ·not-nil, List·Memᴰ·cases-cons, List·Memᴰ·append-cases, Memᴰ·append-left, Memᴰ·append-right, Memᴰ·map, Memᴰ·of-map, Memᴰ·cast}
 use Prim.Native.Nat.{ℕ, zero, suc, _+_, _≤_, _<_}
-use native.Mathlib.Nat.{eq-or-lt-of-le}
+use native.Mathlib.Nat.{eq-or-lt-of-le, le-of-suc-le-suc}
 use native.Mathlib.Omega.{arith}
-use Rattle.division.specs.Words.{from, keep}
+use borrow.Author.Tests.{eqb-true, eq-eqb}
+use lib.ListN.{length, getD}
+use Rattle.refusal.specs.Numbers.{isIn}
+use Rattle.division.specs.Words.{_=?_, from, keep}
 use Rattle.division.specs.Cover.{block}
 use Rattle.division.proofs.BlockLaws.{sheetIn}
+
+pub in-mem : (k : ℕ) (l : List ℕ) → isIn l k ≡ true → List·Memᴰ k l
+in-mem k [] e = let z : _≡_ {A = ℕ} 0 1 = cc in absurd (omega arith)
+in-mem k (x ∷ l) e = by (k =? x) refl e (in-mem k l)
+  where
+    by : (b : Bool) → (k =? x) ≡ b → (b || isIn l k) ≡ true → (isIn l k ≡ true → List·Memᴰ k l) → List·Memᴰ k (x ∷ l)
+    by true f e below = List·Memᴰ·head (eqb-true k x f)
+    by false f e below = List·Memᴰ·tail (below e)
+
+pub mem-in : (k : ℕ) {l : List ℕ} → List·Memᴰ k l → isIn l k ≡ true
+mem-in k {l = x ∷ l} (List·Memᴰ·head g) = rw (eq-eqb k x g)
+mem-in k {l = x ∷ l} (List·Memᴰ·tail m) = by (k =? x) (mem-in k m)
+  where
+    by : (b : Bool) → isIn l k ≡ true → (b || isIn l k) ≡ true
+    by true e = refl
+    by false e = e
+
+pub mem-at : (l : List ℕ) (i : ℕ) → i < length l → List·Memᴰ (getD l i 0) l
+mem-at [] i h = absurd (omega arith)
+mem-at (x ∷ l) zero h = List·Memᴰ·head refl
+mem-at (x ∷ l) (suc i) h = List·Memᴰ·tail (mem-at l i (le-of-suc-le-suc h))
+
+-- and each member stands at a place
+pub mem-place : {l : List ℕ} {k : ℕ} → List·Memᴰ k l → (i : ℕ) × (i < length l) × (getD l i 0 ≡ k)
+mem-place {l = x ∷ l} (List·Memᴰ·head e) = (0, omega arith, sym e)
+mem-place {l = x ∷ l} (List·Memᴰ·tail m) = let p = mem-place m in (suc (p .0), omega (arith, p .1), p .2)
 
 pub from-has : (a n : ℕ) {x : ℕ} → List·Memᴰ x (from a n) → (a ≤ x) × (x < a + n)
 unfolding from

@@ -6,18 +6,21 @@ use mathlib.Core.Logic.{⊎-elim}
 use Prim.Native.Nat.{ℕ, zero, suc, _+_, _-_, _≤_, _<_}
 use native.Mathlib.Nat.{zero-add, le-refl, eq-or-lt-of-le, le-of-suc-le-suc}
 use native.Mathlib.Omega.{arith}
-use borrow.Author.Tests.{le-leb, lt-leb, leb-true, leb-false, ltb-true}
+use borrow.Author.Tests.{le-leb, lt-leb, lt-ltb, leb-true, leb-false, ltb-true}
 use lib.ListN.{length, getD}
 use mir.Val.{boolByte}
+use Rattle.refusal.specs.Paper.{answer}
+use Rattle.refusal.proofs.PaperLaws.{passed, same-answer}
 use Rattle.division.specs.declared.Place.{Place}
+use Rattle.division.specs.declared.Spot.{Spot}
 use Rattle.division.specs.Words.{_≤?_, _<?_, between, from, keep}
 use Rattle.division.specs.Table.{table, tableRow, rowsOf, columnsOf, made, rows, columns, sheets, first, last}
-use Rattle.division.specs.Sheet.{isSheet, onGrid, indexAt, sheetOf, scaleOf, indexOf, placeOf}
+use Rattle.division.specs.Sheet.{isSheet, onGrid, indexAt, sheetOf, scaleOf, indexOf, placeOf, spotOf, locate, sheetOn}
 use Rattle.division.specs.Given.{IsScale, OnGrid, Indexed}
 use Rattle.division.proofs.TestLaws.{both, le-or-less, between-in, in-between}
 use Rattle.division.proofs.RangeLaws.{length-from, keep-none, keep-range}
 use Rattle.division.proofs.MadeLaws.{On, index<, place-index, on-place, index-place}
-use Rattle.division.proofs.TableLaws.{before, rules, all-sheets}
+use Rattle.division.proofs.TableLaws.{before, rules, all-sheets, is-scale}
 
 -- ---- the scale of a sheet
 
@@ -190,3 +193,15 @@ module _ {s : ℕ} {p : Place} (o : OnGrid s p) where
 
   pub is-sheet : isSheet (sheetOf s p) ≡ true
   is-sheet = le-leb (sheetOf s p) 7_953_173 (omega (arith, index-few, rules (o .scale) .low))
+
+-- ---- what is answered of them
+
+-- what is located is a sheet, and where it stands
+pub located : (n : ℕ) {at : Spot} → locate n ≡ answer at → (isSheet n ≡ true) × (at ≡ spotOf n)
+unfolding locate
+located n e = let p = passed 3 (isSheet n) _ e in (p .0, sym (same-answer (p .1)))
+
+-- a place on the grid has its sheet
+pub sheet-there : {s : ℕ} (p : Place) → OnGrid s p → sheetOn s p ≡ answer (sheetOf s p)
+unfolding sheetOn
+sheet-there {s} p o = rw (is-scale (o .scale), lt-ltb (p .row) (rows s) (o .in-rows), lt-ltb (p .column) (columns s) (o .in-columns))

@@ -1,4 +1,4 @@
--- Lists of numbers: what is in one, where it stands, and how many pass a test; two lists of the same numbers have as many. Assumes nothing.
+-- Lists of numbers: whether a number is in one, where it stands, and how many pass a test; two lists of the same numbers have as many. Assumes nothing.
 use mathlib.Core.Path.{_≡_, refl, sym, ap, _∙_}
 use mathlib.Core.Bool.{Bool, true, false, cond, _||_, or-assoc, or-false}
 use mathlib.Core.List.{List, [], _∷_, map, List·Memᴰ, List·Memᴰ·head, List·Memᴰ·tail}
@@ -12,31 +12,11 @@ use Rattle.refusal.specs.Numbers.{isIn}
 use Rattle.rising.proofs.RisingLaws.{from-here}
 use Rattle.division.specs.Words.{_<?_, _=?_, keep}
 use Rattle.division.proofs.NumberLaws.{at-most-one}
+use Rattle.division.proofs.MemberLaws.{in-mem, mem-at}
 use Rattle.local.specs.Rows.{placeIn}
 use Rattle.local.specs.Given.{countBelow, Reaches}
 
 -- ---- what is in a list
-
-pub in-mem : (k : ℕ) (l : List ℕ) → isIn l k ≡ true → List·Memᴰ k l
-in-mem k [] e = let z : _≡_ {A = ℕ} 0 1 = cc in absurd (omega arith)
-in-mem k (x ∷ l) e = by (k =? x) refl e (in-mem k l)
-  where
-    by : (b : Bool) → (k =? x) ≡ b → (b || isIn l k) ≡ true → (isIn l k ≡ true → List·Memᴰ k l) → List·Memᴰ k (x ∷ l)
-    by true f e below = List·Memᴰ·head (eqb-true k x f)
-    by false f e below = List·Memᴰ·tail (below e)
-
-pub mem-in : (k : ℕ) {l : List ℕ} → List·Memᴰ k l → isIn l k ≡ true
-mem-in k {l = x ∷ l} (List·Memᴰ·head g) = rw (eq-eqb k x g)
-mem-in k {l = x ∷ l} (List·Memᴰ·tail m) = by (k =? x) (mem-in k m)
-  where
-    by : (b : Bool) → isIn l k ≡ true → (b || isIn l k) ≡ true
-    by true e = refl
-    by false e = e
-
-pub mem-at : (l : List ℕ) (i : ℕ) → i < length l → List·Memᴰ (getD l i 0) l
-mem-at [] i h = absurd (omega arith)
-mem-at (x ∷ l) zero h = List·Memᴰ·head refl
-mem-at (x ∷ l) (suc i) h = List·Memᴰ·tail (mem-at l i (le-of-suc-le-suc h))
 
 pub map-at : (f : ℕ → ℕ) (l : List ℕ) (i : ℕ) → i < length l → getD (map f l) i 0 ≡ f (getD l i 0)
 map-at f [] i h = absurd (omega arith)

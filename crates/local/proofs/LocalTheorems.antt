@@ -18,6 +18,7 @@ use Rattle.division.specs.Table.{table, tableRow, isScale, rowsOf, columnsOf, p
 use Rattle.division.specs.Sheet.{isSheet, partIndex, scaleOf, indexOf, placeOf, placeAt, readingOrder}
 use Rattle.division.proofs.TestLaws.{in-between, between-in, le-or-less}
 use Rattle.division.proofs.NumberLaws.{ranged}
+use Rattle.division.proofs.MemberLaws.{in-mem, mem-in, mem-at}
 use Rattle.relations.specs.Relations.{isPart, parent, child}
 use Rattle.relations.proofs.RelationTheorems.{child-answered, child-scale, child-sheet, child-has-parent}
 use Rattle.local.specs.declared.Local.{Local}
@@ -27,7 +28,7 @@ use Rattle.local.specs.Rows.{byRows, placeIn}
 use Rattle.local.specs.Numbers.{sheetNumbered, part, standsFor, localToSheet, numberOf, partNumber, oneNumber, twoNumbers, threeNumbers, numbersOf, sheetToLocal, fromThree, asThree}
 use Rattle.local.specs.Given.{OfScale, Part, Municipal}
 use Rattle.local.specs.Theorems.{SheetOf, listed, quarter, sixteenth, Before}
-use Rattle.local.proofs.CountLaws.{in-mem, mem-in, mem-at, place-in, at-place, count}
+use Rattle.local.proofs.CountLaws.{place-in, at-place, count}
 use Rattle.local.proofs.OrderLaws.{rises-apart, places-rise}
 use Rattle.local.proofs.MunicipalityLaws.{member-scale}
 use Rattle.local.proofs.RowLaws.{placed-7, order-is, columns-are, row-first, rows-rise, into-rows, from-rows, length-rows, place-is}

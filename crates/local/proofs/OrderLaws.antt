@@ -10,9 +10,9 @@ use borrow.Author.Tests.{ltb-true, ltb-false, lt-ltb, le-ltb, eq-eqb, ne-eqb}
 use lib.ListN.{length, getD}
 use Rattle.division.specs.Words.{_<?_, _=?_, keep}
 use Rattle.division.proofs.TestLaws.{le-or-less}
-use Rattle.division.proofs.MemberLaws.{keep-has}
+use Rattle.division.proofs.MemberLaws.{mem-at, keep-has}
 use Rattle.local.specs.Rows.{placeIn}
-use Rattle.local.proofs.CountLaws.{mem-at, Distinct, place-in, count, count-none}
+use Rattle.local.proofs.CountLaws.{Distinct, place-in, count, count-none}
 
 module _ (key : ℕ → ℕ) where
   -- all of a list come after x. A list's own order is said by `List·Memᴰ`, which can be taken apart, and not by `Pairwise`, whose members cannot

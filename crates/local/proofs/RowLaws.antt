@@ -25,11 +25,11 @@ use Rattle.division.proofs.MadeLaws.{place, quot}
 use Rattle.division.proofs.TableLaws.{rules}
 use Rattle.division.proofs.NumberLaws.{Ranged, ranged, on-grid, sheet-place}
 use Rattle.division.proofs.WindowLaws.{columns-run, rows-run}
-use Rattle.division.proofs.MemberLaws.{keep-has, has-keep, has-from, has-block}
+use Rattle.division.proofs.MemberLaws.{in-mem, mem-in, mem-at, keep-has, has-keep, has-from, has-block}
 use Rattle.division.proofs.CoverTheorems.{in-order}
 use Rattle.local.specs.Rows.{byRows, placeIn}
 use Rattle.local.specs.Given.{OfScale, Municipal, OneOf, HasNumber, countBelow, Reaches, IsNth}
-use Rattle.local.proofs.CountLaws.{in-mem, mem-in, mem-at, map-at, count, count-all, count-map, pick-all}
+use Rattle.local.proofs.CountLaws.{map-at, count, count-all, count-map, pick-all}
 use Rattle.local.proofs.OrderLaws.{RisesBy, rises-apart, keep-rises, smaller, rank, nth-key}
 use Rattle.local.proofs.MunicipalityLaws.{seven, few, member-scale, distinct}
 

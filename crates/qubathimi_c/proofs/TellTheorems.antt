@@ -15,10 +15,13 @@ use Rattle.refusal.specs.Paper.{Paper, answer, refused, refuse_at_unless_, refu
 use Rattle.refusal.specs.Numbers.{onPaper, laidPaper}
 use Rattle.division.specs.declared.Found.{Found}
 use Rattle.division.specs.declared.Found.the-variants as found
+use Rattle.delivery.specs.declared.Delivered.{Delivered}
+use Rattle.delivery.specs.declared.Delivered.the-variants as delivered
 use Rattle.relations.specs.declared.Neighbour.the-variants.{None}
 use Rattle.division.specs.Words.{_=?_}
 use Rattle.division.specs.Sheet.{isSheet}
 use Rattle.division.specs.Answers.{sheetPaper}
+use Rattle.delivery.specs.Answers.{deliveredPaper}
 use Rattle.catalogue.specs.Parts.{part, labelPart, Caption, ofLine, ofFallback}
 use Rattle.catalogue.proofs.PartLaws.{label-first}
 use Rattle.label.proofs.LabelTheorems.{was-written}
@@ -46,6 +49,10 @@ sheet-heard (found.Refused why) = refusal-heard why
 pub laid-heard : (a : Laid) → heard (status (laidPaper a)) (carried (laidPaper a)) ≡ laidPaper a
 laid-heard (laid.Items n) = refl
 laid-heard (laid.Refused why) = refusal-heard why
+
+pub delivered-heard : (a : Delivered) → heard (status (deliveredPaper a)) (carried (deliveredPaper a)) ≡ deliveredPaper a
+delivered-heard (delivered.Whole n) = refl
+delivered-heard (delivered.Refused why) = refusal-heard why
 
 -- ---- neighbours, parts and captions
 

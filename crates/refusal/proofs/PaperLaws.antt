@@ -8,7 +8,7 @@ use borrow.Author.Tests.{not-true, not-false, le-leb, leb-true}
 use lib.Dec.{leb, eqb}
 use lib.ListN.{length, getD}
 use Rattle.refusal.specs.declared.Refusal.{Refusal}
-use Rattle.refusal.specs.declared.Refusal.the-variants.{PointOutside, NoScale, NoSheet, LabelLength, FieldRange, NoSuch, WindowOrder, WindowOutside, TooMany, Room, EndsEarly, BadNumber, PastLast, MoreBytes, NotRising, NameForm, NameScale, NoNumber, StrangeByte, FieldForm, NamesNoScale, Not250000, NoMunicipality, NoProduct}
+use Rattle.refusal.specs.declared.Refusal.the-variants.{PointOutside, NoScale, NoSheet, LabelLength, FieldRange, NoSuch, WindowOrder, WindowOutside, TooMany, Room, EndsEarly, BadNumber, PastLast, MoreBytes, NotRising, NameForm, NameScale, NoNumber, StrangeByte, FieldForm, NamesNoScale, Not250000, NoMunicipality, NoProduct, NotOfCover, SeenBefore, Missing}
 use Rattle.refusal.specs.declared.Numbered.{Numbered}
 use Rattle.refusal.specs.declared.Laid.{Laid}
 use Rattle.refusal.specs.declared.Laid.the-variants.{Items, Refused}
@@ -45,7 +45,7 @@ same-answer e = cc
 
 -- the refusal of a number and a value
 abbrev refusalAt : ℕ → ℕ → Refusal
-refusalAt n v = getD (PointOutside ∷ NoScale ∷ NoSheet ∷ LabelLength v ∷ FieldRange v ∷ NoSuch ∷ WindowOrder ∷ WindowOutside ∷ TooMany ∷ Room v ∷ EndsEarly ∷ BadNumber ∷ PastLast ∷ MoreBytes ∷ NotRising ∷ NameForm ∷ NameScale ∷ NoNumber ∷ StrangeByte v ∷ FieldForm v ∷ NamesNoScale ∷ Not250000 ∷ NoMunicipality ∷ NoProduct ∷ []) (n - 1) NoNumber
+refusalAt n v = getD (PointOutside ∷ NoScale ∷ NoSheet ∷ LabelLength v ∷ FieldRange v ∷ NoSuch ∷ WindowOrder ∷ WindowOutside ∷ TooMany ∷ Room v ∷ EndsEarly ∷ BadNumber ∷ PastLast ∷ MoreBytes ∷ NotRising ∷ NameForm ∷ NameScale ∷ NoNumber ∷ StrangeByte v ∷ FieldForm v ∷ NamesNoScale ∷ Not250000 ∷ NoMunicipality ∷ NoProduct ∷ NotOfCover v ∷ SeenBefore v ∷ Missing v ∷ []) (n - 1) NoNumber
 
 -- from the paper back to an answer of a kind
 abbrev pub read : {A X : Type 0} → (X → A) → (Refusal → A) → Paper X → A
@@ -77,6 +77,9 @@ read-refusal good bad NamesNoScale = refl
 read-refusal good bad Not250000 = refl
 read-refusal good bad NoMunicipality = refl
 read-refusal good bad NoProduct = refl
+read-refusal good bad (NotOfCover place) = refl
+read-refusal good bad (SeenBefore place) = refl
+read-refusal good bad (Missing sheet) = refl
 
 -- a refusal is no answer
 pub no-answer : (A : Type 0) (why : Refusal) → isAnswer (onPaper {A = A} why) ≡ false
@@ -127,6 +130,9 @@ on-paper NamesNoScale = record { number = 21; some = refl; value = 0; bare = λ 
 on-paper Not250000 = record { number = 22; some = refl; value = 0; bare = λ e. refl; is = λ A. refl }
 on-paper NoMunicipality = record { number = 23; some = refl; value = 0; bare = λ e. refl; is = λ A. refl }
 on-paper NoProduct = record { number = 24; some = refl; value = 0; bare = λ e. refl; is = λ A. refl }
+on-paper (NotOfCover place) = record { number = 25; some = refl; value = place; bare = carried 25 place refl; is = λ A. refl }
+on-paper (SeenBefore place) = record { number = 26; some = refl; value = place; bare = carried 26 place refl; is = λ A. refl }
+on-paper (Missing sheet) = record { number = 27; some = refl; value = sheet; bare = carried 27 sheet refl; is = λ A. refl }
 
 -- and there is one telling of it in numbers
 pub one-numbering : {why : Refusal} {a b : Numbered} → IsNumbered why a → IsNumbered why b → a ≡ b

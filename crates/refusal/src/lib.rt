@@ -34,6 +34,11 @@ pub enum Refusal {
     Not250000,
     NoMunicipality,
     NoProduct,
+    // the place in the delivery, here and below
+    NotOfCover(usize),
+    SeenBefore(usize),
+    // the sheet
+    Missing(u32),
 }
 
 // What was laid into lent room: so many sheets or bytes, from its first place on; or a refusal, and the room is as it was.
@@ -80,6 +85,12 @@ impl Refusal {
             Refusal::Not250000 => Numbered(22, 0, false),
             Refusal::NoMunicipality => Numbered(23, 0, false),
             Refusal::NoProduct => Numbered(24, 0, false),
+            Refusal::NotOfCover(place) => Numbered(25, place, true),
+            Refusal::SeenBefore(place) => Numbered(26, place, true),
+            Refusal::Missing(sheet) => {
+                let value = sheet as usize;
+                Numbered(27, value, true)
+            }
         }
     }
 }

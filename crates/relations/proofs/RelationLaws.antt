@@ -1,5 +1,5 @@
 -- A place that stays on its line when it is moved is a plain number below the line's count, and a part's index lies in its parent's. Assumes nothing.
-use mathlib.Core.Path.{_≡_, sym}
+use mathlib.Core.Path.{_≡_}
 use mathlib.Core.Bool.{true, _&&_}
 use mathlib.Core.List.{[], _∷_}
 use Prim.Native.Nat.{ℕ, _+_, _*_, _/_, _≤_, _<_}
@@ -11,35 +11,23 @@ use lib.Signed.{leZ, ltZ}
 use Rattle.refusal.specs.declared.Refusal.{Refusal}
 use Rattle.refusal.specs.Paper.{Paper, answer, refuse_unless_, _>>_}
 use Rattle.refusal.specs.Numbers.{onPaper}
-use Rattle.refusal.proofs.PaperLaws.{passed, same-answer, refuses-so}
+use Rattle.refusal.proofs.PaperLaws.{refuses-so}
 use Rattle.division.specs.declared.Place.{Place}
 use Rattle.division.specs.declared.Spot.{Spot}
 use Rattle.division.specs.Words.{_≤?_, _=?_, _≤ᶻ_, _<ᶻ_, between}
 use Rattle.division.specs.Table.{rows, columns, sheets, first, parentScale, parts}
-use Rattle.division.specs.Sheet.{isSheet, scaleOf, indexOf, partIndex, sheetOf, spotOf, locate, sheetOn}
+use Rattle.division.specs.Sheet.{isSheet, scaleOf, indexOf, partIndex, spotOf, locate}
 use Rattle.relations.specs.Relations.{moved, stays, isPart}
 use Rattle.division.specs.Given.{IsScale, OnGrid}
 use Rattle.division.proofs.TestLaws.{both, Plain, from-pos, le-shift, lt-shift}
-use Rattle.division.proofs.TableLaws.{rules, is-scale}
+use Rattle.division.proofs.TableLaws.{rules}
 use Rattle.division.proofs.NumberLaws.{ranged, indexed}
 use Rattle.division.proofs.FamilyLaws.{above, sheets-family, parent-indexed}
 
--- ---- sheets and places
-
--- what is located is a sheet, and where it stands
-pub located : (n : ℕ) {at : Spot} → locate n ≡ answer at → (isSheet n ≡ true) × (at ≡ spotOf n)
-unfolding locate
-located n e = let p = passed 3 (isSheet n) _ e in (p .0, sym (same-answer (p .1)))
-
--- and what is not is refused alike by who asks for a sheet first
+-- what is not located is refused alike by who asks for a sheet first
 pub not-located : {A : Type 0} (n : ℕ) (next : Paper A) (why : Refusal) → locate n ≡ onPaper why → ((refuse 3 unless isSheet n) >> next) ≡ onPaper why
 unfolding locate
 not-located n next why e = refuses-so (refuse 3 unless isSheet n) (spotOf n) next why e
-
--- a place on the grid has its sheet
-pub sheet-there : {s : ℕ} (p : Place) → OnGrid s p → sheetOn s p ≡ answer (sheetOf s p)
-unfolding sheetOn
-sheet-there {s} p o = rw (is-scale (o .scale), lt-ltb (p .row) (rows s) (o .in-rows), lt-ltb (p .column) (columns s) (o .in-columns))
 
 -- ---- moves
 

@@ -7,8 +7,9 @@ use lib.ListN.{length}
 use Rattle.division.specs.Words.{_<?_}
 use Rattle.division.specs.Sheet.{readingOrder}
 use Rattle.division.proofs.NumberLaws.{at-most-one}
+use Rattle.division.proofs.MemberLaws.{mem-at}
 use Rattle.local.specs.Rows.{byRows, placeIn}
-use Rattle.local.proofs.CountLaws.{mem-at, Counting, counting-first, counting-next, counting-done}
+use Rattle.local.proofs.CountLaws.{Counting, counting-first, counting-next, counting-done}
 use Rattle.local.proofs.MunicipalityLaws.{few, member-scale}
 use Rattle.local.proofs.RowLaws.{one-scale, counted-place}
 use Rattle.local.proofs.rows.number_of.Statement.{statement}

@@ -6,7 +6,7 @@ use native.Mathlib.Omega.{arith}
 use borrow.Author.Needs.{needs}
 use lib.ListN.{length, take, length-set}
 use Rattle.division.specs.Sheet.{readingOrder}
-use Rattle.local.proofs.CountLaws.{mem-at}
+use Rattle.division.proofs.MemberLaws.{mem-at}
 use Rattle.local.proofs.MunicipalityLaws.{few, member-scale}
 use Rattle.local.proofs.RowLaws.{put-order, all-orders}
 use Rattle.local.proofs.rows.orders.Statement.{statement}

@@ -84,6 +84,18 @@ enum-told-18 c = search needs
 enum-told-19 : tie.Need-enum-told-19
 enum-told-19 c = search needs
 
+enum-known-self-6 : tie.Need-enum-known-self-6
+enum-known-self-6 c = search needs
+
+enum-known-self-7 : tie.Need-enum-known-self-7
+enum-known-self-7 c = search needs
+
+enum-known-self-8 : tie.Need-enum-known-self-8
+enum-known-self-8 c = search needs
+
+cast-value : tie.Need-cast-value
+cast-value c = search needs
+
 returns : tie.Need-returns
 returns c = told (c .enum-told .given .1) refl refl
 
@@ -156,6 +168,15 @@ returns-23 c = told (c .enum-told18 .given .1) refl refl
 returns-24 : tie.Need-returns-24
 returns-24 c = told (c .enum-told19 .given .1) refl refl
 
+returns-25 : tie.Need-returns-25
+returns-25 c = told (c .before .self6 .given .1) refl refl
+
+returns-26 : tie.Need-returns-26
+returns-26 c = told (c .before .self7 .given .1) refl refl
+
+returns-27 : tie.Need-returns-27
+returns-27 c = told (c .before .self8 .given .1) refl refl
+
 pub numbered-spec : {M : Type 1} → statement M
 numbered-spec =
     tie.close
@@ -184,6 +205,10 @@ numbered-spec =
     enum-told-17
     enum-told-18
     enum-told-19
+    enum-known-self-6
+    enum-known-self-7
+    enum-known-self-8
+    cast-value
     returns
     returns-2
     returns-3
@@ -207,4 +232,7 @@ numbered-spec =
     returns-21
     returns-22
     returns-23
-    returns-24)
+    returns-24
+    returns-25
+    returns-26
+    returns-27)

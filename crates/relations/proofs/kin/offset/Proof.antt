@@ -4,7 +4,8 @@ use borrow.Author.Needs.{needs}
 use Rattle.division.specs.Sheet.{spotOf}
 use Rattle.division.specs.Answers.{spotPaper}
 use Rattle.relations.specs.Relations.{offsetFrom, offset}
-use Rattle.relations.proofs.RelationLaws.{located, not-located}
+use Rattle.division.proofs.NumberLaws.{located}
+use Rattle.relations.proofs.RelationLaws.{not-located}
 use Rattle.relations.proofs.kin.offset.Statement.{statement}
 use Rattle.relations.proofs.kin.offset.Tie as tie
 

@@ -8,7 +8,8 @@ use Rattle.division.specs.Words.{_=?_}
 use Rattle.division.specs.Sheet.{scaleOf, placeOf, locate}
 use Rattle.division.specs.Answers.{spotPaper}
 use Rattle.relations.specs.Relations.{apart}
-use Rattle.relations.proofs.RelationLaws.{located, not-located}
+use Rattle.division.proofs.NumberLaws.{located}
+use Rattle.relations.proofs.RelationLaws.{not-located}
 use Rattle.relations.proofs.kin.offset_from.Statement.{statement}
 use Rattle.relations.proofs.kin.offset_from.Tie as tie
 

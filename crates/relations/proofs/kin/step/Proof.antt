@@ -7,7 +7,8 @@ use Rattle.division.specs.Answers.{spotPaper}
 use Rattle.division.proofs.TestLaws.{back}
 use Rattle.division.proofs.NumberLaws.{on-grid}
 use Rattle.relations.specs.Relations.{walk, step}
-use Rattle.relations.proofs.RelationLaws.{located, not-located}
+use Rattle.division.proofs.NumberLaws.{located}
+use Rattle.relations.proofs.RelationLaws.{not-located}
 use Rattle.relations.proofs.kin.step.Statement.{statement}
 use Rattle.relations.proofs.kin.step.Tie as tie
 

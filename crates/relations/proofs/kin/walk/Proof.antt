@@ -5,7 +5,8 @@ use Rattle.refusal.proofs.PaperLaws.{fails, holds}
 use Rattle.division.specs.Table.{rows, columns}
 use Rattle.relations.specs.Relations.{stays, walk}
 use Rattle.division.proofs.TestLaws.{back}
-use Rattle.relations.proofs.RelationLaws.{sheet-there, walked-on}
+use Rattle.division.proofs.NumberLaws.{sheet-there}
+use Rattle.relations.proofs.RelationLaws.{walked-on}
 use Rattle.relations.proofs.kin.walk.Statement.{statement}
 use Rattle.relations.proofs.kin.walk.Tie as tie
 

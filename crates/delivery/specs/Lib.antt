@@ -1,0 +1,4 @@
+pub mod Delivery
+pub mod Answers
+pub mod Given
+pub mod Theorems
