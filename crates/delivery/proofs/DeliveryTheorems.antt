@@ -1,10 +1,10 @@
 -- What is accepted of a delivery and what is refused, in document 02's words: the first refusal among the places decides, and then the first
 -- among the sheets of the cover. Assumes nothing.
 use mathlib.Core.Path.{_≡_, refl, sym, ap, _∙_, subst}
-use mathlib.Core.Bool.{Bool, true, false, not, cond}
+use mathlib.Core.Bool.{Bool, true, false, not}
 use mathlib.Core.Logic.{_↔_, _⊎_, inl, inr, ⊎-elim}
 use mathlib.Core.List.{List, List·Memᴰ}
-use Prim.Native.Nat.{ℕ, _+_, _≤_, _<_}
+use Prim.Native.Nat.{ℕ, _≤_, _<_}
 use native.Mathlib.Omega.{arith}
 use borrow.Author.Tests.{not-true}
 use lib.ListN.{length, getD, take}
@@ -15,7 +15,6 @@ use Rattle.refusal.proofs.PaperLaws.{same-answer, differs, same-number, same-va
 use Rattle.division.specs.declared.Edges.{Edges}
 use Rattle.division.specs.Words.{from}
 use Rattle.division.specs.Cover.{sheetsIn, coverable, cover}
-use Rattle.division.proofs.TestLaws.{le-or-less}
 use Rattle.division.proofs.RangeLaws.{length-from, getD-from}
 use Rattle.division.proofs.MemberLaws.{in-mem, mem-in, mem-at, mem-place}
 use Rattle.division.proofs.CoverLaws.{is-coverable}

@@ -5,14 +5,13 @@ use mathlib.Core.List.{[], _∷_}
 use Prim.Native.Nat.{ℕ, _+_, _*_, _/_, _≤_, _<_}
 use native.Mathlib.Nat.{mul-le-mul-right}
 use native.Mathlib.Omega.{arith}
-use borrow.Author.Tests.{leb-true, ltb-true, lt-ltb, eqb-true}
+use borrow.Author.Tests.{leb-true, ltb-true, eqb-true}
 use lib.IntN.{ℤ, pos, natAbs, _-ℤ_}
 use lib.Signed.{leZ, ltZ}
 use Rattle.refusal.specs.declared.Refusal.{Refusal}
-use Rattle.refusal.specs.Paper.{Paper, answer, refuse_unless_, _>>_}
+use Rattle.refusal.specs.Paper.{Paper, refuse_unless_, _>>_}
 use Rattle.refusal.specs.Numbers.{onPaper}
 use Rattle.refusal.proofs.PaperLaws.{refuses-so}
-use Rattle.division.specs.declared.Place.{Place}
 use Rattle.division.specs.declared.Spot.{Spot}
 use Rattle.division.specs.Words.{_≤?_, _=?_, _≤ᶻ_, _<ᶻ_, between}
 use Rattle.division.specs.Table.{rows, columns, sheets, first, parentScale, parts}

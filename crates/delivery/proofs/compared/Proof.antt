@@ -1,6 +1,5 @@
 -- The first pass tells the first bad place, or leaves marks by which the second finds what is missing. Assumes nothing.
-use mathlib.Core.Path.{_≡_, sym, ap, _∙_}
-use native.Mathlib.Omega.{arith}
+use mathlib.Core.Path.{sym, ap, _∙_}
 use borrow.Author.Needs.{needs}
 use Rattle.refusal.specs.Numbers.{judgedPaper}
 use Rattle.delivery.specs.Given.{sheetsOf}

@@ -1,5 +1,5 @@
 -- A place of the cover is in a row and a column of the grid, which have a sheet. Assumes nothing.
-use mathlib.Core.Path.{_≡_, sym, ap, _∙_}
+use mathlib.Core.Path.{sym, ap, _∙_}
 use native.Mathlib.Omega.{arith}
 use borrow.Author.Needs.{needs}
 use Rattle.refusal.proofs.PaperLaws.{same-answer, differs, on-paper}

@@ -1,7 +1,6 @@
 -- A number of another scale, or of none, stands nowhere, and a sheet of the scale where its place tells. Assumes nothing.
 use mathlib.Core.Path.{_≡_}
 use mathlib.Core.Bool.{true, false, _&&_}
-use native.Mathlib.Omega.{arith}
 use borrow.Author.Needs.{needs}
 use borrow.Author.Tests.{not-true, not-false}
 use Rattle.division.specs.Words.{_≤?_, between}

@@ -1,5 +1,4 @@
 -- Its parent is of scale 3, which is made from the area. Assumes nothing.
-use mathlib.Core.Path.{_≡_, sym, ap, _∙_}
 use borrow.Author.Needs.{needs}
 use Rattle.delivery.proofs.PartLaws.{three, placed-above}
 use Rattle.delivery.proofs.place.once.Statement.{statement}
