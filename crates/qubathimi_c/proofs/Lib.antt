@@ -1,3 +1,1 @@
-pub mod TellLaws
-pub mod TellTheorems
 pub mod NeighbourLaws

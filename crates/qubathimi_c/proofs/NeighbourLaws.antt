@@ -9,7 +9,8 @@ use lib.Seq.{sets, sets-eq}
 use Rattle.refusal.specs.Paper.{answer, refused, roomAfter}
 use Rattle.relations.specs.declared.Neighbour.{Neighbour}
 use Rattle.relations.specs.Relations.{neighbours}
-use Rattle.qubathimi_c.specs.Plain.{mark, marks, neighboursIn}
+use Rattle.telling.specs.Plain.{mark}
+use Rattle.qubathimi_c.specs.Plain.{marks, neighboursIn}
 
 -- three places, one behind the other
 pub in-row : (room : List ℕ) (at a b c : ℕ) → set (set (set room at a) (at + 1) b) (at + 2) c ≡ sets room at (a ∷ b ∷ c ∷ [])

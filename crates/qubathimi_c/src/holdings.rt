@@ -1,35 +1,28 @@
 // Holdings and their lists.
-use crate::lists::tell_ended;
-use crate::tell::tell_laid;
-use crate::tell::tell_refusal;
-use holding::Held;
-use holding::Parted;
 use holding::holding;
 use holding::holding_parts;
 use list_reading::read_holdings;
 use list_writing::holdings_length;
 use list_writing::write_holdings;
+use telling::lists::tell_read;
+use telling::number::tell_held;
+use telling::number::tell_laid;
+use telling::several::tell_parts;
 ghost use mathlib.Core.Path.{_≡_};
 ghost use lib.ListN.{length};
 ghost use Rattle.refusal.specs.Paper.{counted, roomAfter};
 ghost use Rattle.holding.specs.Holding.{holding, partsOf};
 ghost use Rattle.shelf.specs.Writing.{holdingsLength, writeHoldings};
 ghost use Rattle.shelf.specs.Reading.{readHoldings, roomAfterRead};
-ghost use Rattle.qubathimi_c.specs.Told.{status, carried, written};
-ghost use Rattle.qubathimi_c.specs.Plain.{readCount};
+ghost use Rattle.telling.specs.Told.{status, carried, written};
+ghost use Rattle.telling.specs.Plain.{readCount};
 
 #[no_mangle]
 pub extern "C" fn qubathimi_holding(sheet: u32, product: u32, value: &mut u64) -> u32
     ensures { λ r. ⌜ r ≡ status (holding sheet product) ⌝ }
     ensures { λ _. ⌜ now (value .exit) ≡ carried (holding sheet product) ⌝ }
 {
-    match holding(sheet, product) {
-        Held::Number(n) => {
-            *value = n as u64;
-            0
-        }
-        Held::Refused(why) => tell_refusal(why, value),
-    }
+    tell_held(holding(sheet, product), value)
 }
 
 #[no_mangle]
@@ -38,14 +31,7 @@ pub extern "C" fn qubathimi_holding_parts(holding: u32, sheet: &mut u32, product
     ensures { λ _. ⌜ now (sheet .exit) ≡ written (λ parts. parts .sheet) (partsOf holding) (now (sheet .entry)) ⌝ }
     ensures { λ _. ⌜ now (product .exit) ≡ written (λ parts. parts .product) (partsOf holding) (now (product .entry)) ⌝ }
 {
-    match holding_parts(holding) {
-        Parted::Into(parts) => {
-            *sheet = parts.sheet;
-            *product = parts.product;
-            0
-        }
-        Parted::Refused(why) => why.numbered().0,
-    }
+    tell_parts(holding_parts(holding), sheet, product)
 }
 
 #[no_mangle]
@@ -81,9 +67,5 @@ pub extern "C" fn qubathimi_read_holdings(
     ensures { λ _. ⌜ now (value .exit) ≡ carried (readCount (readHoldings (now (list .entry)) (length (now (room .entry))))) ⌝ }
     ensures { λ _. ⌜ now (room .exit) ≡ roomAfterRead (readHoldings (now (list .entry)) (length (now (room .entry)))) (now (room .entry)) ⌝ }
 {
-    let read = read_holdings(list, room);
-    let ended = read.ended;
-    let count = read.placed;
-    *placed = count as u64;
-    tell_ended(ended, count, value)
+    tell_read(read_holdings(list, room), placed, value)
 }

@@ -1,17 +1,18 @@
 // Parent, child, step, offset, neighbours and covers.
-use crate::tell::tell_laid;
-use crate::tell::tell_sheet;
 use division::Edges;
 use division::cover::cover;
 use refusal::Laid;
 use refusal::Refusal;
-use relations::Apart;
 use relations::Neighbour;
 use relations::kin::child;
 use relations::kin::neighbours;
 use relations::kin::offset;
 use relations::kin::parent;
 use relations::kin::step;
+use telling::marks::mark;
+use telling::number::tell_laid;
+use telling::number::tell_sheet;
+use telling::several::tell_offset;
 ghost use mathlib.Core.Path.{_≡_};
 ghost use Prim.Native.Nat.{_+_, _≤_};
 ghost use lib.ListN.{length};
@@ -20,8 +21,8 @@ ghost use Rattle.refusal.specs.Paper.{counted, roomAfter};
 ghost use Rattle.refusal.specs.Numbers.{laidPaper};
 ghost use Rattle.relations.specs.Relations.{parent, child, step, offset};
 ghost use Rattle.division.specs.Cover.{cover};
-ghost use Rattle.qubathimi_c.specs.Told.{status, carried, written};
-ghost use Rattle.qubathimi_c.specs.Plain.{window, mark, marks, neighboursIn};
+ghost use Rattle.telling.specs.Told.{status, carried, written};
+ghost use Rattle.qubathimi_c.specs.Plain.{window, marks, neighboursIn};
 
 #[no_mangle]
 pub extern "C" fn qubathimi_parent(sheet: u32, value: &mut u64) -> u32
@@ -53,28 +54,7 @@ pub extern "C" fn qubathimi_offset(a: u32, b: u32, east: &mut i64, south: &mut i
     ensures { λ _. ⌜ now (east .exit) ≡ written (λ by. by .east) (offset a b) (now (east .entry)) ⌝ }
     ensures { λ _. ⌜ now (south .exit) ≡ written (λ by. by .south) (offset a b) (now (south .entry)) ⌝ }
 {
-    match offset(a, b) {
-        Apart::By(by) => {
-            let e = by.east;
-            let s = by.south;
-            *east = e;
-            *south = s;
-            0
-        }
-        Apart::Refused(why) => why.numbered().0,
-    }
-}
-
-// A number that is no sheet.
-pub(crate) const NONE: u32 = 4_294_967_295;
-
-fn mark(place: Neighbour) -> u32
-    ensures { λ r. ⌜ r ≡ mark place ⌝ }
-{
-    match place {
-        Neighbour::Sheet(n) => n,
-        Neighbour::None => NONE,
-    }
+    tell_offset(offset(a, b), east, south)
 }
 
 // Writes a row of three places, from `at` on.

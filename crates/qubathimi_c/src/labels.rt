@@ -1,14 +1,14 @@
 // Labels.
-use crate::tell::tell_laid;
-use crate::tell::tell_sheet;
 use labelling::writing::label_length;
 use labelling::writing::write_label;
 use reading::labels::read_label;
+use telling::number::tell_laid;
+use telling::number::tell_sheet;
 ghost use mathlib.Core.Path.{_≡_};
 ghost use lib.ListN.{length};
 ghost use Rattle.refusal.specs.Paper.{counted, roomAfter};
 ghost use Rattle.label.specs.Label.{readLabel, writeLabel, labelLength};
-ghost use Rattle.qubathimi_c.specs.Told.{status, carried};
+ghost use Rattle.telling.specs.Told.{status, carried};
 
 #[no_mangle]
 pub extern "C" fn qubathimi_read_label(label: &[u8], value: &mut u64) -> u32

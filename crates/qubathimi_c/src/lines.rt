@@ -1,15 +1,17 @@
 // Catalogue lines, their parts and captions.
-use crate::tell::tell_sheet;
 use catalogue::line::read_line;
 use catalogue::parts::spans_of;
 use names::same_name;
+use telling::lines::tell_caption;
+use telling::lines::tell_spans;
+use telling::number::tell_sheet;
 ghost use mathlib.Core.Path.{_≡_};
 ghost use Rattle.catalogue.specs.Line.{readLine};
 ghost use Rattle.catalogue.specs.Parts.{labelPart, namePart, caption};
 ghost use Rattle.names.specs.Name.{SameName};
 ghost use Rattle.names.specs.Given.{Tells};
-ghost use Rattle.qubathimi_c.specs.Told.{status, carried};
-ghost use Rattle.qubathimi_c.specs.Plain.{source, partOf};
+ghost use Rattle.telling.specs.Told.{status, carried};
+ghost use Rattle.telling.specs.Plain.{source, partOf};
 
 #[no_mangle]
 pub extern "C" fn qubathimi_read_line(line: &[u8], value: &mut u64) -> u32
@@ -31,10 +33,7 @@ pub extern "C" fn qubathimi_line_parts(
     ensures { λ _. ⌜ now (start .exit) ≡ namePart (now (line .entry)) .start ⌝ }
     ensures { λ _. ⌜ now (end .exit) ≡ namePart (now (line .entry)) .end ⌝ }
 {
-    let at = spans_of(line);
-    *label = at.label as u64;
-    *start = at.start as u64;
-    *end = at.end as u64;
+    tell_spans(spans_of(line), label, start, end);
     0
 }
 
@@ -51,16 +50,7 @@ pub extern "C" fn qubathimi_caption(
     ensures { λ _. ⌜ now (start .exit) ≡ partOf (caption (now (line .entry)) (now (fallback .entry))) .start ⌝ }
     ensures { λ _. ⌜ now (end .exit) ≡ partOf (caption (now (line .entry)) (now (fallback .entry))) .end ⌝ }
 {
-    let at = spans_of(line);
-    if at.bare {
-        *value = 1;
-        *start = 0;
-        *end = fallback.len() as u64;
-        return 0;
-    }
-    *value = 0;
-    *start = at.start as u64;
-    *end = at.end as u64;
+    tell_caption(spans_of(line), fallback.len(), value, start, end);
     0
 }
 

@@ -1,17 +1,16 @@
 // Shelf lists.
-use crate::tell::tell_laid;
-use crate::tell::tell_refusal;
 use list_reading::read_list;
 use list_writing::list_length;
 use list_writing::write_list;
-use shelf::Ended;
+use telling::lists::tell_read;
+use telling::number::tell_laid;
 ghost use mathlib.Core.Path.{_≡_};
 ghost use lib.ListN.{length};
 ghost use Rattle.refusal.specs.Paper.{counted, roomAfter};
 ghost use Rattle.shelf.specs.Writing.{listLength, writeList};
-ghost use Rattle.shelf.specs.Reading.{readList, endedPaper, roomAfterRead};
-ghost use Rattle.qubathimi_c.specs.Told.{status, carried};
-ghost use Rattle.qubathimi_c.specs.Plain.{counting, readCount};
+ghost use Rattle.shelf.specs.Reading.{readList, roomAfterRead};
+ghost use Rattle.telling.specs.Told.{status, carried};
+ghost use Rattle.telling.specs.Plain.{readCount};
 
 #[no_mangle]
 pub extern "C" fn qubathimi_list_length(sheets: &[u32], value: &mut u64) -> u32
@@ -30,20 +29,6 @@ pub extern "C" fn qubathimi_write_list(sheets: &[u32], room: &mut [u8], value: &
     tell_laid(write_list(sheets, room), value)
 }
 
-// How reading ended, and the count of what was placed where it read the list whole.
-pub(crate) fn tell_ended(ended: Ended, count: usize, value: &mut u64) -> u32
-    ensures { λ r. ⌜ r ≡ status (endedPaper ended) ⌝ }
-    ensures { λ _. ⌜ now (value .exit) ≡ carried (counting (endedPaper ended) count) ⌝ }
-{
-    match ended {
-        Ended::Whole => {
-            *value = count as u64;
-            0
-        }
-        Ended::Refused(why) => tell_refusal(why, value),
-    }
-}
-
 #[no_mangle]
 pub extern "C" fn qubathimi_read_list(
     list: &[u8],
@@ -56,9 +41,5 @@ pub extern "C" fn qubathimi_read_list(
     ensures { λ _. ⌜ now (value .exit) ≡ carried (readCount (readList (now (list .entry)) (length (now (room .entry))))) ⌝ }
     ensures { λ _. ⌜ now (room .exit) ≡ roomAfterRead (readList (now (list .entry)) (length (now (room .entry)))) (now (room .entry)) ⌝ }
 {
-    let read = read_list(list, room);
-    let ended = read.ended;
-    let count = read.placed;
-    *placed = count as u64;
-    tell_ended(ended, count, value)
+    tell_read(read_list(list, room), placed, value)
 }

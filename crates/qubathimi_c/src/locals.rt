@@ -1,12 +1,12 @@
 // Local numbers in a municipality.
-use crate::tell::tell_sheet;
-use local::Known;
 use local::Local;
 use local::numbers::local_to_sheet;
 use local::numbers::sheet_to_local;
+use telling::number::tell_sheet;
+use telling::several::tell_local;
 ghost use mathlib.Core.Path.{_≡_};
 ghost use Rattle.local.specs.Numbers.{localToSheet, sheetToLocal, fromThree, asThree};
-ghost use Rattle.qubathimi_c.specs.Told.{status, carried, written};
+ghost use Rattle.telling.specs.Told.{status, carried, written};
 
 #[no_mangle]
 pub extern "C" fn qubathimi_local_to_sheet(
@@ -35,14 +35,5 @@ pub extern "C" fn qubathimi_sheet_to_local(
     ensures { λ _. ⌜ now (a .exit) ≡ written (λ l. asThree l .a) (sheetToLocal (now (municipality .entry)) sheet) (now (a .entry)) ⌝ }
     ensures { λ _. ⌜ now (b .exit) ≡ written (λ l. asThree l .b) (sheetToLocal (now (municipality .entry)) sheet) (now (b .entry)) ⌝ }
 {
-    match sheet_to_local(municipality, sheet) {
-        Known::By(local) => {
-            let told = local.as_three();
-            *n = told.n;
-            *a = told.a;
-            *b = told.b;
-            0
-        }
-        Known::Refused(why) => why.numbered().0,
-    }
+    tell_local(sheet_to_local(municipality, sheet), n, a, b)
 }

@@ -1,12 +1,12 @@
 // Frames and points in metres.
-use crate::tell::tell_frame;
-use crate::tell::tell_sheet;
 use frame::metres::frame_at_metres;
 use frame::metres::frame_of;
 use frame::metres::sheet_at_metres;
+use telling::number::tell_sheet;
+use telling::several::tell_frame;
 ghost use mathlib.Core.Path.{_≡_};
 ghost use Rattle.frame.specs.Metres.{frameOf, sheetAtMetres, frameAtMetres};
-ghost use Rattle.qubathimi_c.specs.Told.{status, carried, written};
+ghost use Rattle.telling.specs.Told.{status, carried, written};
 
 #[no_mangle]
 pub extern "C" fn qubathimi_frame(

@@ -1,15 +1,15 @@
 // Sheets, places and points.
-use crate::tell::tell_sheet;
-use division::Corners;
-use division::Located;
 use division::Place;
 use division::sheet::corners_of;
 use division::sheet::locate;
 use division::sheet::sheet_at;
 use division::sheet::sheet_on;
+use telling::number::tell_sheet;
+use telling::several::tell_corners;
+use telling::several::tell_spot;
 ghost use mathlib.Core.Path.{_≡_};
 ghost use Rattle.division.specs.Sheet.{locate, sheetOn, sheetAt, cornersOf};
-ghost use Rattle.qubathimi_c.specs.Told.{status, carried, written};
+ghost use Rattle.telling.specs.Told.{status, carried, written};
 ghost use Rattle.qubathimi_c.specs.Plain.{place};
 
 #[no_mangle]
@@ -24,15 +24,7 @@ pub extern "C" fn qubathimi_locate(
     ensures { λ _. ⌜ now (row .exit) ≡ written (λ at. at .place .row) (locate sheet) (now (row .entry)) ⌝ }
     ensures { λ _. ⌜ now (column .exit) ≡ written (λ at. at .place .column) (locate sheet) (now (column .entry)) ⌝ }
 {
-    match locate(sheet) {
-        Located::At(at) => {
-            *scale = at.scale;
-            *row = at.place.row;
-            *column = at.place.column;
-            0
-        }
-        Located::Refused(why) => why.numbered().0,
-    }
+    tell_spot(locate(sheet), scale, row, column)
 }
 
 #[no_mangle]
@@ -69,18 +61,5 @@ pub extern "C" fn qubathimi_corners(
     ensures { λ _. ⌜ now (south .exit) ≡ written (λ edges. edges .south) (cornersOf sheet) (now (south .entry)) ⌝ }
     ensures { λ _. ⌜ now (north .exit) ≡ written (λ edges. edges .north) (cornersOf sheet) (now (north .entry)) ⌝ }
 {
-    match corners_of(sheet) {
-        Corners::Framed(edges) => {
-            let w = edges.west;
-            let e = edges.east;
-            let s = edges.south;
-            let n = edges.north;
-            *west = w;
-            *east = e;
-            *south = s;
-            *north = n;
-            0
-        }
-        Corners::Refused(why) => why.numbered().0,
-    }
+    tell_corners(corners_of(sheet), west, east, south, north)
 }

@@ -7,8 +7,8 @@ use borrow.Author.Needs.{needs}
 use Rattle.division.specs.declared.Edges.{Edges}
 use Rattle.division.proofs.TestLaws.{back}
 use Rattle.delivery.specs.Delivery.{checkDelivery}
+use Rattle.telling.proofs.TellLaws.{told}
 use Rattle.qubathimi_c.specs.Plain.{window}
-use Rattle.qubathimi_c.proofs.TellLaws.{told}
 use Rattle.qubathimi_c.proofs.deliveries.qubathimi_check_delivery.Statement.{statement}
 use Rattle.qubathimi_c.proofs.deliveries.qubathimi_check_delivery.Tie as tie
 

@@ -2,7 +2,7 @@
 use lib.ListN.{length}
 use borrow.Author.Needs.{needs}
 use Rattle.shelf.specs.Writing.{writeHoldings}
-use Rattle.qubathimi_c.proofs.TellLaws.{told-laid}
+use Rattle.telling.proofs.TellLaws.{told-laid}
 use Rattle.qubathimi_c.proofs.holdings.qubathimi_write_holdings.Statement.{statement}
 use Rattle.qubathimi_c.proofs.holdings.qubathimi_write_holdings.Tie as tie
 

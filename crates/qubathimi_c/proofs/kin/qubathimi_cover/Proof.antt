@@ -4,7 +4,7 @@ use borrow.Author.Needs.{needs}
 use Rattle.division.specs.Cover.{cover}
 use Rattle.division.proofs.TestLaws.{back}
 use Rattle.qubathimi_c.specs.Plain.{window}
-use Rattle.qubathimi_c.proofs.TellLaws.{told-laid}
+use Rattle.telling.proofs.TellLaws.{told-laid}
 use Rattle.qubathimi_c.proofs.kin.qubathimi_cover.Statement.{statement}
 use Rattle.qubathimi_c.proofs.kin.qubathimi_cover.Tie as tie
 

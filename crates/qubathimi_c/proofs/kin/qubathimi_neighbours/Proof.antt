@@ -2,7 +2,7 @@
 use lib.ListN.{length}
 use borrow.Author.Needs.{needs}
 use Rattle.qubathimi_c.specs.Plain.{neighboursIn}
-use Rattle.qubathimi_c.proofs.TellLaws.{told-laid}
+use Rattle.telling.proofs.TellLaws.{told-laid}
 use Rattle.qubathimi_c.proofs.kin.qubathimi_neighbours.Statement.{statement}
 use Rattle.qubathimi_c.proofs.kin.qubathimi_neighbours.Tie as tie
 

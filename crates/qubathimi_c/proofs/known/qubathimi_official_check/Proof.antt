@@ -1,7 +1,7 @@
 -- The answer is told as it is. Assumes nothing.
 use borrow.Author.Needs.{needs}
-use Rattle.qubathimi_c.specs.Plain.{verdictNumber}
-use Rattle.qubathimi_c.proofs.TellLaws.{told-by}
+use Rattle.telling.specs.Plain.{verdictNumber}
+use Rattle.telling.proofs.TellLaws.{told-by}
 use Rattle.qubathimi_c.proofs.known.qubathimi_official_check.Statement.{statement}
 use Rattle.qubathimi_c.proofs.known.qubathimi_official_check.Tie as tie
 

@@ -1,7 +1,7 @@
 -- The answer is told as it is. Assumes nothing.
 use borrow.Author.Needs.{needs}
-use Rattle.qubathimi_c.specs.Plain.{byteCount}
-use Rattle.qubathimi_c.proofs.TellLaws.{told-by}
+use Rattle.telling.specs.Plain.{byteCount}
+use Rattle.telling.proofs.TellLaws.{told-by}
 use Rattle.qubathimi_c.proofs.known.qubathimi_official_name.Statement.{statement}
 use Rattle.qubathimi_c.proofs.known.qubathimi_official_name.Tie as tie
 

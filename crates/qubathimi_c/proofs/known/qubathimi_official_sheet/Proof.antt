@@ -1,7 +1,7 @@
 -- The answer is told as it is. Assumes nothing.
 use mathlib.Core.Path.{refl, ap, _∙_}
 use borrow.Author.Needs.{needs}
-use Rattle.qubathimi_c.specs.Plain.{sheetOrNone}
+use Rattle.telling.specs.Plain.{sheetOrNone}
 use Rattle.qubathimi_c.proofs.known.qubathimi_official_sheet.Statement.{statement}
 use Rattle.qubathimi_c.proofs.known.qubathimi_official_sheet.Tie as tie
 

@@ -2,7 +2,7 @@
 use lib.ListN.{length}
 use borrow.Author.Needs.{needs}
 use Rattle.label.specs.Label.{writeLabel}
-use Rattle.qubathimi_c.proofs.TellLaws.{told-laid}
+use Rattle.telling.proofs.TellLaws.{told-laid}
 use Rattle.qubathimi_c.proofs.labels.qubathimi_write_label.Statement.{statement}
 use Rattle.qubathimi_c.proofs.labels.qubathimi_write_label.Tie as tie
 

@@ -1,28 +1,29 @@
--- The reader's answer is told as it is, and its count beside it. Assumes nothing.
+-- The reader's answer is told as it is. Assumes nothing.
+use mathlib.Core.Path.{_∙_}
 use lib.ListN.{length}
 use borrow.Author.Needs.{needs}
 use Rattle.shelf.specs.Reading.{readList}
-use Rattle.qubathimi_c.proofs.TellLaws.{told-read}
+use Rattle.telling.proofs.TellLaws.{told-read}
 use Rattle.qubathimi_c.proofs.lists.qubathimi_read_list.Statement.{statement}
 use Rattle.qubathimi_c.proofs.lists.qubathimi_read_list.Tie as tie
 
 read-list-requires : tie.Need-read-list-requires
 read-list-requires c κs = search needs
 
-tell-ended-requires : tie.Need-tell-ended-requires
-tell-ended-requires c κs = search needs
+tell-read-requires : tie.Need-tell-read-requires
+tell-read-requires c κs = search needs
 
 same-length : tie.Need-same-length
 same-length c = search needs
 
 returns : tie.Need-returns
 returns c =
-    let l = c .before .before .before .before in
+    let l = c .before .before .before .before .before in
     let a = l .before .before .before .before .args in
     let i = l .read-list .ensures in
-    let t = told-read (readList (a .list .now) (length (a .room .now))) (i .0) (c .tell-ended .ensures) in
-    (t .0, (i .0 .placed, (t .1, i .1)))
+    let s = c .tell-read .ensures in
+    let t = told-read (readList (a .list .now) (length (a .room .now))) (i .0) (s .0, s .1 .1) in
+    (t .0, (s .1 .0 ∙ i .0 .placed, (t .1, i .1)))
 
 pub qubathimi-read-list-spec : {M : Type 1} → statement M
-qubathimi-read-list-spec =
-    tie.close (tie.spec read-list-requires tell-ended-requires same-length returns)
+qubathimi-read-list-spec = tie.close (tie.spec read-list-requires tell-read-requires same-length returns)

@@ -2,7 +2,7 @@
 use lib.ListN.{length}
 use borrow.Author.Needs.{needs}
 use Rattle.shelf.specs.Writing.{writeList}
-use Rattle.qubathimi_c.proofs.TellLaws.{told-laid}
+use Rattle.telling.proofs.TellLaws.{told-laid}
 use Rattle.qubathimi_c.proofs.lists.qubathimi_write_list.Statement.{statement}
 use Rattle.qubathimi_c.proofs.lists.qubathimi_write_list.Tie as tie
 

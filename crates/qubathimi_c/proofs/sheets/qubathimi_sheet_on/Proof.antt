@@ -1,6 +1,6 @@
 -- The answer is told as it is. Assumes nothing.
 use borrow.Author.Needs.{needs}
-use Rattle.qubathimi_c.proofs.TellLaws.{told}
+use Rattle.telling.proofs.TellLaws.{told}
 use Rattle.qubathimi_c.proofs.sheets.qubathimi_sheet_on.Statement.{statement}
 use Rattle.qubathimi_c.proofs.sheets.qubathimi_sheet_on.Tie as tie
 

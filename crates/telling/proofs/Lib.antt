@@ -1,0 +1,2 @@
+pub mod TellLaws
+pub mod TellTheorems
