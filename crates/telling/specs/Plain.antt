@@ -17,8 +17,7 @@ abbrev pub mark : Neighbour → ℕ
 mark (Sheet n) = n
 mark None = 4_294_967_295
 
--- "The caption is the line's own name where it has one, and otherwise the fallback text", by where the line's parts lie and how long the
--- fallback is
+-- the caption of a line, by where its parts lie and how long the fallback is
 abbrev pub captionAt : Spans → ℕ → Caption
 captionAt at fallback = cond (at .bare) (ofFallback (part 0 fallback)) (ofLine (part (at .start) (at .end)))
 

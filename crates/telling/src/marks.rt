@@ -1,4 +1,4 @@
-// The mark of a place, for which there may be no sheet.
+// A place as one number: its sheet, or the mark of none.
 use relations::Neighbour;
 ghost use mathlib.Core.Path.{_≡_};
 ghost use Rattle.telling.specs.Plain.{mark};
