@@ -49,7 +49,7 @@ module _ (j : ℕ) (h : isSheet j ≡ true) where
       let o = on-grid j h in
       lies-owns (placeOf j) o e top (record { west = a; east = b; south = omega (arith, some-height (o .scale)); north = omega arith })
 
-  corner-owned : owns (groundOf j) (pos left) (pos top) ≡ true
+  pub corner-owned : owns (groundOf j) (pos left) (pos top) ≡ true
   corner-owned = top-owned left (omega arith) (omega (arith, some-width (on-grid j h .scale)))
 
 -- so where two sheets have the same ground, each lies between the other's west and east edge
