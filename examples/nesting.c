@@ -693,7 +693,6 @@ static int print_picture(const struct two *two)
         widen(&view, &sheet);
     }
 
-
     /* The legend has at most nine rows, two of which are heads. The page is as high as whole pixels. */
     int64_t bar = y_of(&view, view.south) + 560, legend = bar + 440, page = (legend + 9 * ROW + 2 * GAP) / 10 * 10;
     printf("<svg xmlns=\"http://www.w3.org/2000/svg\" width=\"%d\" height=\"%d\" ", PAGE / 10, (int)(page / 10));
