@@ -161,16 +161,27 @@ answers-holds {s} {k} e n a =
       ground = subst (λ (q : ℕ). owns (edgesOf q (placeOf (sheetOf s (record { row = rowAt s n; column = columnAt s e })))) e n ≡ true) (sym (scale-sheet o)) (subst (λ (q : Place). owns (edgesOf s q) e n ≡ true) (sym (place-sheet o)) (point-owned e n i));
     })
 
+-- a sheet that holds a point of its scale is the one that is answered, at the point's row and column; so no other holds it
+module _ {s k : ℕ} {e n : ℤ} (h : Holds s e n k) where
+  pub holder : Owner s (placeOf k) e n
+  holder = subst (λ (t : ℕ). Owner t (placeOf k) e n) (h .scale) (owner (placeOf k) (on-grid k (h .sheet)) e n (h .ground))
+
+  pub holds-answers : sheetAt s e n ≡ answer k
+  holds-answers = subst (λ (t : ℕ). sheetAt t e n ≡ answer k) (h .scale) (owns-answers k e n (h .sheet) (h .ground))
+
+pub one-sheet : {s j k : ℕ} {e n : ℤ} → Holds s e n j → Holds s e n k → j ≡ k
+one-sheet h l = same-answer (sym (holds-answers h) ∙ holds-answers l)
+
 -- "Each point of the area lies in exactly one sheet of each scale": the one that is answered
 pub each-point-in-one-sheet : (s : ℕ) (e n : ℤ) → isScale s ≡ true → owns area e n ≡ true → (k : ℕ) × (sheetAt s e n ≡ answer k) × Holds s e n k × ((j : ℕ) → Holds s e n j → j ≡ k)
 each-point-in-one-sheet s e n h o =
     let a = answered e n (scale s h) o in
     let k = sheetOf s (record { row = rowAt s n; column = columnAt s e }) in
-    (k, a, answers-holds e n a, λ j g. same-answer (sym (rw (g .scale) at (owns-answers j e n (g .sheet) (g .ground))) ∙ a))
+    (k, a, answers-holds e n a, λ j g. one-sheet g (answers-holds e n a))
 
 -- a point outside the area lies in no sheet
 pub outside-in-none : (s : ℕ) (e n : ℤ) (k : ℕ) → owns area e n ≡ false → Holds s e n k → ⊥
 outside-in-none s e n k o g =
-    let t = owner (placeOf k) (on-grid k (g .sheet)) e n (g .ground) .in-area in
+    let t = holder g .in-area in
     let z : _≡_ {A = ℕ} 0 1 = cc in
     omega arith

@@ -5,18 +5,17 @@ use mathlib.Core.List.{List, [], _∷_, flatMap}
 use Prim.Native.Nat.{ℕ, zero, suc, _+_, _*_, _≤_, _<_}
 use native.Mathlib.Nat.{zero-mul, suc-mul}
 use native.Mathlib.Omega.{arith}
-use borrow.Author.Tests.{le-leb, eq-eqb}
 use lib.IntN.{ℤ, pos, natAbs, _+ℤ_, _-ℤ_, +ℤ-comm, +ℤ-negℤ-cancel}
 use Rattle.refusal.specs.Paper.{answer}
 use Rattle.division.specs.Words.{from}
-use Rattle.division.specs.Table.{width, height, parentScale, parts, first}
+use Rattle.division.specs.Table.{isScale, width, height, parentScale, parts, first}
 use Rattle.division.specs.Grid.{millimetres}
 use Rattle.division.specs.Sheet.{isSheet, scaleOf, indexOf, partIndex, groundOf}
-use Rattle.division.specs.Given.{IsScale}
-use Rattle.division.proofs.TableLaws.{is-scale}
+use Rattle.division.proofs.TestLaws.{in-between}
 use Rattle.division.proofs.GroundTheorems.{as-wide, as-high}
 use Rattle.relations.specs.Relations.{child}
-use Rattle.nests.specs.Children.{answered, children, areaOf, areas}
+use Rattle.relations.proofs.RelationTheorems.{child-there}
+use Rattle.nests.specs.Children.{listOf, children, areaOf, areas}
 
 -- ---- their numbers
 
@@ -28,16 +27,15 @@ runs g a b (suc m) h =
     let here : g a ≡ b ∷ [] = subst₂ (λ (x y : ℕ). g x ≡ y ∷ []) (omega arith) (omega arith) (h 0 (omega arith)) in
     rw here (ap (λ (l : List ℕ). b ∷ l) (runs g (a + 1) (b + 1) m (λ i l. subst₂ (λ (x y : ℕ). g x ≡ y ∷ []) (omega arith) (omega arith) (h (suc i) (omega arith)))))
 
-module _ (n s : ℕ) (h : isSheet n ≡ true) (i : IsScale s) (m : parentScale s ≡ scaleOf n) where
-  pub child-there : (number : ℕ) → 1 ≤ number → number ≤ parts s → child n s number ≡ answer (first s + partIndex (parts s) (indexOf n) number)
-  unfolding child
-  child-there number one last = rw (h, is-scale i, eq-eqb (parentScale s) (scaleOf n) m, le-leb 1 number one, le-leb number (parts s) last)
+module _ (n s : ℕ) (h : isSheet n ≡ true) (i : isScale s ≡ true) (m : parentScale s ≡ scaleOf n) where
+  pub numbered : (number : ℕ) → 1 ≤ number → number ≤ parts s → child n s number ≡ answer (first s + partIndex (parts s) (indexOf n) number)
+  numbered number one last = child-there n s number h i m (in-between 1 (parts s) number one last)
 
   pub children-run : children n s ≡ from (first s + indexOf n * parts s) (parts s)
   unfolding children
   children-run =
-      runs (λ number. answered (child n s number)) 1 (first s + indexOf n * parts s) (parts s)
-      (λ j l. ap answered (child-there (1 + j) (omega arith) (omega arith)) ∙ ap (λ (k : ℕ). k ∷ []) (omega arith))
+      runs (λ number. listOf (child n s number)) 1 (first s + indexOf n * parts s) (parts s)
+      (λ j l. ap listOf (numbered (1 + j) (omega arith) (omega arith)) ∙ ap (λ (k : ℕ). k ∷ []) (omega arith))
 
 -- ---- their areas
 

@@ -1,5 +1,6 @@
 -- The children of a sheet fill it: a point's place at their scale lies in its place at the sheet's, so the sheet that holds the point at their
--- scale is one of them, and no other sheet of that scale holds it. Assumes nothing.
+-- scale is one of them, and no other sheet of that scale holds it. They are as many as they go into its width times into its height, so the
+-- areas add up. Assumes nothing.
 use mathlib.Core.Path.{_≡_, sym, ap, ap₂, _∙_, subst}
 use mathlib.Core.Bool.{true}
 use mathlib.Core.List.{List·Memᴰ}
@@ -8,41 +9,46 @@ use Prim.Native.Nat.{ℕ, _+_, _-_, _*_, _≤_, _<_}
 use native.Mathlib.Nat.{mul-comm, mul-mul-mul-comm}
 use native.Mathlib.Omega.{arith}
 use lib.IntN.{ℤ}
+use lib.ListN.{length}
 use Rattle.refusal.specs.Paper.{answer}
 use Rattle.division.specs.declared.Place.{Place}
-use Rattle.division.specs.Table.{width, height, made, parentScale, side, parts, first}
+use Rattle.division.specs.Table.{isScale, width, height, made, parentScale, side, parts, first}
 use Rattle.division.specs.Grid.{millimetres, rowAt, columnAt}
 use Rattle.division.specs.Sheet.{isSheet, scaleOf, indexOf, placeOf, sheetOf, indexAt, partIndex, numberIn, parentPlace}
 use Rattle.division.specs.Given.{IsScale, OnGrid}
 use Rattle.division.specs.Theorems.{Holds}
 use Rattle.division.proofs.MadeLaws.{number-few, parent-child}
 use Rattle.division.proofs.TableLaws.{scale, rules}
+use Rattle.division.proofs.RangeLaws.{length-from}
 use Rattle.division.proofs.MemberLaws.{from-has, has-from}
 use Rattle.division.proofs.NumberLaws.{on-grid, sheet-place, place-sheet}
 use Rattle.division.proofs.FamilyLaws.{parted, deep-index}
 use Rattle.division.proofs.PointLaws.{inside, point-on}
-use Rattle.division.proofs.PointTheorems.{answered, answers-holds}
+use Rattle.division.proofs.PointTheorems.{answered, answers-holds, holder, one-sheet}
 use Rattle.relations.specs.Relations.{child}
 use Rattle.relations.proofs.RelationTheorems.{child-answered, child-sheet, child-scale, child-is-at, child-tells}
 use Rattle.nests.specs.Nesting.{SheetOf, Has, Share, LiesIn}
 use Rattle.nests.specs.Children.{children, areaOf, areas, EachSheetIsFilled}
-use Rattle.nests.proofs.HoldLaws.{has-holds, holds-has, holder, one-sheet}
+use Rattle.nests.proofs.HoldLaws.{has-holds, holds-has}
 use Rattle.nests.proofs.NestLaws.{Fits, holds-around}
-use Rattle.nests.proofs.ChildrenLaws.{child-there, children-run, area-is, areas-run}
+use Rattle.nests.proofs.ChildrenLaws.{numbered, children-run, area-is, areas-run}
 
-module _ (n s : ℕ) (h : isSheet n ≡ true) (i : IsScale s) (m : parentScale s ≡ scaleOf n) where
+module _ (n s : ℕ) (h : isSheet n ≡ true) (i : isScale s ≡ true) (m : parentScale s ≡ scaleOf n) where
   deep : parentScale s ≡ 0 → ⊥
   deep e = omega (arith, m, on-grid n h .scale .one)
 
+  of-nine : IsScale s
+  of-nine = scale s i
+
   some : 0 < side s
-  some = parted i deep .some
+  some = parted of-nine deep .some
 
   -- the sheet is so many times as wide and as high as its children
   family : Fits (scaleOf n) s (side s) (side s)
   family = record {
     larger = on-grid n h .scale;
-    wide = omega (arith, rules i .wide-parts, ap width m);
-    high = omega (arith, rules i .high-parts, ap height m);
+    wide = omega (arith, rules of-nine .wide-parts, ap width m);
+    high = omega (arith, rules of-nine .high-parts, ap height m);
   }
 
   of-scale : (number : ℕ) {k : ℕ} → child n s number ≡ answer k → SheetOf s k
@@ -68,14 +74,14 @@ module _ (n s : ℕ) (h : isSheet n ≡ true) (i : IsScale s) (m : parentScale s
   fill e y p =
       let in-area = holder p .in-area in
       let at : Place = record { row = rowAt s y; column = columnAt s e } in
-      let on : OnGrid s at = point-on (inside i e y in-area) in
-      let w : Holds s e y (sheetOf s at) = answers-holds e y (answered e y i in-area) in
+      let on : OnGrid s at = point-on (inside of-nine e y in-area) in
+      let w : Holds s e y (sheetOf s at) = answers-holds e y (answered e y of-nine in-area) in
       let up : sheetOf (scaleOf n) (parentPlace (side s) at) ≡ n = one-sheet (subst (λ (q : Place). Holds (scaleOf n) e y (sheetOf (scaleOf n) (parentPlace (side s) q))) (place-sheet on) (holds-around family w)) p in
       let index : indexAt (made (parentScale s)) (parentPlace (side s) at) ≡ indexOf n = ap (λ (t : ℕ). indexAt (made t) (parentPlace (side s) at)) m ∙ omega (arith, up) in
-      let is : indexAt (made s) at ≡ partIndex (parts s) (indexOf n) (numberIn (side s) at) = deep-index i deep at on ∙ ap (λ (j : ℕ). partIndex (parts s) j (numberIn (side s) at)) index in (
+      let is : indexAt (made s) at ≡ partIndex (parts s) (indexOf n) (numberIn (side s) at) = deep-index of-nine deep at on ∙ ap (λ (j : ℕ). partIndex (parts s) j (numberIn (side s) at)) index in (
         numberIn (side s) at,
         sheetOf s at,
-        child-there n s h i m (numberIn (side s) at) (omega arith) (number-few (side s) some at) ∙ ap (λ (j : ℕ). answer (first s + j)) (sym is),
+        numbered n s h i m (numberIn (side s) at) (omega arith) (number-few (side s) some at) ∙ ap (λ (j : ℕ). answer (first s + j)) (sym is),
         holds-has w,
       )
 
@@ -85,7 +91,7 @@ module _ (n s : ℕ) (h : isSheet n ≡ true) (i : IsScale s) (m : parentScale s
   start = first s + indexOf n * parts s
 
   child-at : (k : ℕ) → start ≤ k → k < start + parts s → child n s (k - start + 1) ≡ answer k
-  child-at k b c = child-there n s h i m (k - start + 1) (omega arith) (omega arith) ∙ ap answer (omega arith)
+  child-at k b c = numbered n s h i m (k - start + 1) (omega arith) (omega arith) ∙ ap answer (omega arith)
 
   each : (k : ℕ) → List·Memᴰ k (children n s) ↔ ((number : ℕ) × (child n s number ≡ answer k))
   each k = (
@@ -106,6 +112,11 @@ module _ (n s : ℕ) (h : isSheet n ≡ true) (i : IsScale s) (m : parentScale s
       ∙ sym (area-is n h ∙ ap₂ _*_ (family .wide) (family .high))
 
 pub each-sheet-is-filled : EachSheetIsFilled
-each-sheet-is-filled n s h i m =
-    let t = scale s i in
-    record { each = each n s h t m; apart = apart n s h t m; inside = lies n s h t m; fill = fill n s h t m; add-up = add-up n s h t m }
+each-sheet-is-filled n s h i m = record {
+  each = each n s h i m;
+  count = ap length (children-run n s h i m) ∙ length-from (first s + indexOf n * parts s) (parts s);
+  apart = apart n s h i m;
+  inside = lies n s h i m;
+  fill = fill n s h i m;
+  add-up = add-up n s h i m;
+}

@@ -16,9 +16,9 @@ use Rattle.division.specs.Sheet.{placeOf, sheetOf}
 use Rattle.division.specs.Given.{IsScale}
 use Rattle.division.specs.Theorems.{Holds}
 use Rattle.division.proofs.MadeLaws.{place}
-use Rattle.division.proofs.PointTheorems.{answered, answers-holds}
+use Rattle.division.proofs.PointTheorems.{answered, answers-holds, holder, one-sheet}
 use Rattle.nests.specs.Nesting.{Share, LiesIn, Nests}
-use Rattle.nests.proofs.HoldLaws.{has-holds, holds-has, holder, one-sheet}
+use Rattle.nests.proofs.HoldLaws.{has-holds, holds-has}
 
 -- the sheets of scale s are so many times as wide, and so many times as high, as those of scale t
 pub record Fits (s t across down : ℕ) : Type 0 where

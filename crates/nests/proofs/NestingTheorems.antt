@@ -1,5 +1,5 @@
--- Which of the 36 pairs nest: where the smaller sheets go into the larger ones without a rest, a pair nests, and where they leave one it
--- overlaps; no pair does both, since what a smaller sheet has alone would be in both or in none. Assumes nothing.
+-- Which of the 36 pairs nest: where the smaller sheets go into the larger ones without a remainder a pair nests, and where they leave one it
+-- overlaps. No pair does both: two sheets that overlap have a point in both, and the smaller one has a point outside the larger. Assumes nothing.
 use mathlib.Core.Path.{_≡_, refl, sym, _∙_}
 use mathlib.Core.Bool.{Bool, true, false, true≢false}
 use mathlib.Core.List.{flatMap}
@@ -8,13 +8,13 @@ use Prim.Native.Nat.{ℕ}
 use borrow.Author.Tests.{eqb-true, eqb-false}
 use Rattle.division.specs.Words.{_=?_, from, keep}
 use Rattle.division.specs.Table.{table, tableRow, isScale}
-use Rattle.division.proofs.PointTheorems.{each-point-in-one-sheet}
+use Rattle.division.proofs.PointTheorems.{each-point-in-one-sheet, holder, one-sheet}
 use Rattle.division.proofs.GroundTheorems.{corner-owned}
 use Rattle.nests.specs.Nesting.{SheetOf, Has, Share, LiesIn, Nests, Overlaps, IsPair, isOneOfFour, WhichScalesNest}
-use Rattle.nests.proofs.HoldLaws.{has-holds, holds-has, holder, one-sheet}
+use Rattle.nests.proofs.HoldLaws.{has-holds, holds-has}
 use Rattle.nests.proofs.NestLaws.{nests}
 use Rattle.nests.proofs.OverlapLaws.{overlaps}
-use Rattle.nests.proofs.PairLaws.{any-two, fits-or-rests}
+use Rattle.nests.proofs.PairLaws.{any-two, fits-or-not}
 
 never-both : (s t : ℕ) → Nests s t → Overlaps s t → ⊥
 never-both s t n o =
@@ -28,7 +28,7 @@ exactly not-both (inl v) = ((λ a. v .0, λ e. v .1), (λ b. absurd (not-both (v
 exactly not-both (inr v) = ((λ a. absurd (not-both a (v .1)), λ e. absurd (true≢false (sym (v .0) ∙ e))), (λ b. v .0, λ e. v .1))
 
 judged : {s t : ℕ} → IsPair s t → ((isOneOfFour s t ≡ false) × Nests s t) ⊎ ((isOneOfFour s t ≡ true) × Overlaps s t)
-judged p = ⊎-elim (λ v. inl (v .0, nests (v .1))) (λ v. inr (v .0, overlaps (v .1))) (fits-or-rests p)
+judged p = ⊎-elim (λ v. inl (v .0, nests (v .1))) (λ v. inr (v .0, overlaps (v .1))) (fits-or-not p)
 
 -- the larger sheet that has the corner of a smaller one shares a point with it, and so has all of it
 each-in-one : (s t k : ℕ) → isScale s ≡ true → Nests s t → SheetOf t k → (j : ℕ) × SheetOf s j × LiesIn k j

@@ -1,4 +1,4 @@
--- Where a width leaves a rest, the smaller sheet across the east edge of the first larger sheet overlaps it in part: along the area's north
+-- Where a width leaves a remainder, the smaller sheet across the east edge of the first larger sheet overlaps it in part: along the area's north
 -- edge, where the smaller sheet begins both have the point, at the area's corner the larger one alone, and at the larger one's east edge the
 -- smaller one alone. Assumes nothing.
 use mathlib.Core.Path.{_≡_, refl, sym, ap, _∙_, subst}
@@ -9,17 +9,18 @@ use native.Mathlib.Omega.{arith}
 use borrow.Author.Tests.{le-leb, lt-ltb}
 use lib.IntN.{ℤ, pos}
 use Rattle.division.specs.declared.Place.{Place}
-use Rattle.division.specs.Table.{width, height, rows, columns}
+use Rattle.division.specs.Table.{width, height}
 use Rattle.division.specs.Grid.{millimetres, area, owns, columnAt, rowAt}
 use Rattle.division.specs.Sheet.{placeOf, sheetOf}
 use Rattle.division.specs.Given.{IsScale, OnGrid}
 use Rattle.division.specs.Theorems.{Holds}
-use Rattle.division.proofs.MadeLaws.{place, quot}
+use Rattle.division.proofs.MadeLaws.{place}
 use Rattle.division.proofs.NumberLaws.{scale-sheet, place-sheet, is-sheet}
-use Rattle.division.proofs.GridLaws.{some-width, some-height, all-columns, all-rows, column-is, row-is}
-use Rattle.division.proofs.PointTheorems.{answered, answers-holds}
+use Rattle.division.proofs.GridLaws.{some-width, column-is, row-is}
+use Rattle.division.proofs.PointLaws.{inside, point-on}
+use Rattle.division.proofs.PointTheorems.{answered, answers-holds, one-sheet}
 use Rattle.nests.specs.Nesting.{Has, Overlaps}
-use Rattle.nests.proofs.HoldLaws.{has-holds, holds-has, one-sheet}
+use Rattle.nests.proofs.HoldLaws.{has-holds, holds-has}
 
 -- ---- the area's north edge, by the distance from its west end
 
@@ -35,38 +36,36 @@ first-row c = record { row = 0; column = c }
 in-area : (x : ℕ) → x < 600_000_000 → owns area (east x) top ≡ true
 in-area x h = rw (le-leb 200_000_000 (200_000_000 + x) (omega arith), lt-ltb (200_000_000 + x) 800_000_000 (omega arith))
 
-module _ {s : ℕ} (h : IsScale s) where
-  first-on : (c x : ℕ) → x < 600_000_000 → x / millimetres (width s) ≡ c → OnGrid s (first-row c)
-  first-on c x l e = record {
-    scale = h;
-    in-rows = subst (λ (r : ℕ). r < rows s) (zero-div (millimetres (height s))) (quot (some-height h) (omega (arith, all-rows h)));
-    in-columns = subst (λ (d : ℕ). d < columns s) e (quot (some-width h) (omega (arith, all-columns h)));
-  }
+module _ {s : ℕ} (h : IsScale s) (c x : ℕ) (l : x < 600_000_000) (e : x / millimetres (width s) ≡ c) where
+  there : _≡_ {A = Place} (record { row = rowAt s top; column = columnAt s (east x) }) (first-row c)
+  there =
+      place (row-is s 5_170_000_000 (omega arith) ∙ zero-div (millimetres (height s)))
+      (column-is s (200_000_000 + x) (omega arith) ∙ ap (λ (y : ℕ). y / millimetres (width s)) (omega arith) ∙ e)
+
+  first-on : OnGrid s (first-row c)
+  first-on = subst (OnGrid s) there (point-on (inside h (east x) top (in-area x l)))
 
   -- the sheet of the first row that has the point
-  first-holds : (c x : ℕ) → x < 600_000_000 → x / millimetres (width s) ≡ c → Holds s (east x) top (sheetOf s (first-row c))
-  first-holds c x l e =
-      let d : columnAt s (east x) ≡ c = column-is s (200_000_000 + x) (omega arith) ∙ ap (λ (y : ℕ). y / millimetres (width s)) (omega arith) ∙ e in
-      let r : rowAt s top ≡ 0 = row-is s 5_170_000_000 (omega arith) ∙ zero-div (millimetres (height s)) in
-      subst (λ (p : Place). Holds s (east x) top (sheetOf s p)) (place r d) (answers-holds (east x) top (answered (east x) top h (in-area x l)))
+  first-holds : Holds s (east x) top (sheetOf s (first-row c))
+  first-holds = subst (λ (p : Place). Holds s (east x) top (sheetOf s p)) there (answers-holds (east x) top (answered (east x) top h (in-area x l)))
 
   -- and another of that row has it not
-  first-lacks : {c d : ℕ} (x : ℕ) → x < 600_000_000 → x / millimetres (width s) ≡ d → OnGrid s (first-row c) → (c ≡ d → ⊥) → Has (sheetOf s (first-row c)) (east x) top → ⊥
-  first-lacks {c} {d} x l e o apart p =
-      let same : sheetOf s (first-row c) ≡ sheetOf s (first-row d) = one-sheet (has-holds (record { sheet = is-sheet o; scale = scale-sheet o }) p) (first-holds d x l e) in
-      apart (ap (λ (q : Place). q .column) (sym (place-sheet o) ∙ ap placeOf same ∙ place-sheet (first-on d x l e)))
+  first-lacks : {d : ℕ} → OnGrid s (first-row d) → (d ≡ c → ⊥) → Has (sheetOf s (first-row d)) (east x) top → ⊥
+  first-lacks {d} o apart p =
+      let same : sheetOf s (first-row d) ≡ sheetOf s (first-row c) = one-sheet (has-holds (record { sheet = is-sheet o; scale = scale-sheet o }) p) first-holds in
+      apart (ap (λ (q : Place). q .column) (sym (place-sheet o) ∙ ap placeOf same ∙ place-sheet first-on))
 
 -- ---- the two sheets
 
--- the sheets of scale t are less wide than those of scale s, and leave a rest of their width
-pub record Rest (s t : ℕ) : Type 0 where
+-- the sheets of scale t are less wide than those of scale s, and leave a remainder of their width
+pub record Remainder (s t : ℕ) : Type 0 where
   pub larger : IsScale s
   pub smaller : IsScale t
   pub less : width t < width s
   pub left : 0 < millimetres (width s) % millimetres (width t)
   pub short : width s < 600_000
 
-module _ {s t : ℕ} (r : Rest s t) where
+module _ {s t : ℕ} (r : Remainder s t) where
   abbrev wide : ℕ
   wide = millimetres (width s)
 
@@ -127,12 +126,12 @@ module _ {s t : ℕ} (r : Rest s t) where
       east = east 0;
       north = top;
       in-one = holds-has (first-holds (r .larger) 0 0 (omega arith) (zero-div wide));
-      not-in-other = first-lacks (r .smaller) 0 (omega arith) (zero-div narrow) other not-first;
+      not-in-other = first-lacks (r .smaller) 0 0 (omega arith) (zero-div narrow) other not-first;
     };
     smaller-alone = record {
       east = east wide;
       north = top;
       in-one = holds-has (first-holds (r .smaller) column wide wide-in refl);
-      not-in-other = first-lacks (r .larger) wide wide-in wide-wide one (λ e. omega arith);
+      not-in-other = first-lacks (r .larger) 1 wide wide-in wide-wide one (λ e. omega arith);
     };
   }

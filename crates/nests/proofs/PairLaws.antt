@@ -1,25 +1,25 @@
 -- What the table says of two scales is computed of all of them: where the smaller width goes into the larger one, so does the height, and the
--- four are the pairs where it leaves a rest. Assumes nothing.
+-- four are the pairs where it leaves a remainder. Assumes nothing.
 use mathlib.Core.Path.{_≡_, refl, sym, _∙_, subst}
 use mathlib.Core.Bool.{Bool, true, false, true≢false, _&&_, not}
 use mathlib.Core.List.{List, _∷_, map, List·Memᴰ, List·Memᴰ·head, List·Memᴰ·tail}
-use mathlib.Core.Logic.{_⊎_, inl, inr, ⊎-elim}
-use Prim.Native.Nat.{ℕ, zero, suc, _*_, _/_, _%_, _<_}
-use native.Mathlib.Nat.{div-add-mod', mul-comm, eq-or-lt-of-le}
+use mathlib.Core.Logic.{_⊎_, inl, inr}
+use Prim.Native.Nat.{ℕ, _*_, _/_, _%_, _<_}
+use native.Mathlib.Nat.{div-add-mod', mul-comm}
 use native.Mathlib.Omega.{arith}
-use borrow.Author.Tests.{eqb-true, ltb-true, lt-ltb}
+use borrow.Author.Tests.{eqb-true, eqb-false, ltb-true, lt-ltb}
 use Rattle.division.specs.Words.{_<?_, _=?_, from, keep}
 use Rattle.division.specs.Table.{table, tableRow, isScale, width, height}
 use Rattle.division.specs.Grid.{millimetres}
 use Rattle.division.specs.Given.{IsScale}
-use Rattle.division.proofs.TestLaws.{both, le-or-less}
+use Rattle.division.proofs.TestLaws.{both}
 use Rattle.division.proofs.TableLaws.{Each, each, scale}
 use Rattle.division.proofs.MemberLaws.{has-from, keep-has, has-keep}
 use Rattle.nests.specs.Nesting.{areSmaller, IsPair, isOneOfFour}
 use Rattle.nests.proofs.NestLaws.{Fits}
-use Rattle.nests.proofs.OverlapLaws.{Rest}
+use Rattle.nests.proofs.OverlapLaws.{Remainder}
 
--- ---- tests of two scales
+-- ---- tests of two scales, compared by lists, so that where two differ the error names the scale
 
 -- for each scale the scales that pass a test with it
 abbrev passing : (ℕ → ℕ → Bool) → List (List ℕ)
@@ -48,7 +48,7 @@ alike f g {s} e h l =
 
 -- ---- the table
 
--- a length goes into another without a rest
+-- a length goes into another without a remainder
 abbrev goesInto : ℕ → ℕ → Bool
 goesInto a b = (millimetres b % millimetres a) =? 0
 
@@ -62,13 +62,13 @@ high-as-wide : passing highFits ≡ passing wideFits
 unfolding from keep table tableRow
 high-as-wide = refl
 
--- the four are the pairs that leave a rest
-abbrev leavesRest : ℕ → ℕ → Bool
-leavesRest s t = areSmaller t s && not (wideFits s t)
+-- the four are the pairs that leave a remainder
+abbrev leavesRemainder : ℕ → ℕ → Bool
+leavesRemainder s t = areSmaller t s && not (wideFits s t)
 
-four-rest : passing isOneOfFour ≡ passing leavesRest
+four-remain : passing isOneOfFour ≡ passing leavesRemainder
 unfolding from keep table tableRow
-four-rest = refl
+four-remain = refl
 
 -- the scale with the lower number has the larger sheets
 by-number : passing (λ s t. areSmaller t s) ≡ passing (λ s t. s <? t)
@@ -82,22 +82,14 @@ all-short = search arith
 
 -- ---- two scales
 
-is-pair : (s t : ℕ) → isScale s ≡ true → isScale t ≡ true → s < t → IsPair s t
-is-pair s t a b h =
+pub any-two : (s t : ℕ) → isScale s ≡ true → isScale t ≡ true → s < t → IsPair s t
+any-two s t a b h =
     record { larger = a; smaller = b; sizes = alike (λ s t. areSmaller t s) (λ s t. s <? t) by-number (scale s a) (scale t b) ∙ lt-ltb s t h }
 
-pub any-two : (s t : ℕ) → isScale s ≡ true → isScale t ≡ true → (s ≡ t → ⊥) → IsPair s t ⊎ IsPair t s
-any-two s t a b d =
-    ⊎-elim (λ h. ⊎-elim (λ e. absurd (d e)) (λ l. inl (is-pair s t a b l)) (eq-or-lt-of-le h)) (λ h. inr (is-pair t s b a h)) (le-or-less s t)
-
--- what goes in without a rest goes in so many times
+-- what goes in without a remainder goes in so many times
 times : (a b : ℕ) → goesInto a b ≡ true → millimetres b ≡ millimetres a * (millimetres b / millimetres a)
 times a b e =
     omega (arith, div-add-mod' (millimetres b) (millimetres a), eqb-true (millimetres b % millimetres a) 0 e, mul-comm (millimetres a) (millimetres b / millimetres a))
-
-some-rest : (x : ℕ) → (x =? 0) ≡ false → 0 < x
-some-rest zero e = absurd (true≢false e)
-some-rest (suc x) e = omega arith
 
 module _ {s t : ℕ} (p : IsPair s t) where
   larger : IsScale s
@@ -119,22 +111,22 @@ module _ {s t : ℕ} (p : IsPair s t) where
     high = times (height t) (height s) (alike highFits wideFits high-as-wide larger smaller ∙ e);
   }
 
-  rest : wideFits s t ≡ false → Rest s t
-  rest e = record {
+  remainder : wideFits s t ≡ false → Remainder s t
+  remainder e = record {
     larger = larger;
     smaller = smaller;
     less = ltb-true (width t) (width s) (both (width t <? width s) (height t <? height s) (p .sizes) .0);
-    left = some-rest (millimetres (width s) % millimetres (width t)) e;
+    left = omega (arith, eqb-false (millimetres (width s) % millimetres (width t)) 0 e);
     short = each (λ s. width s < 600_000) 9 all-short s (larger .one) (larger .nine);
   }
 
-  -- a pair fits and is none of the four, or it leaves a rest and is one of them
-  pub fits-or-rests : ((isOneOfFour s t ≡ false) × Fits s t across down) ⊎ ((isOneOfFour s t ≡ true) × Rest s t)
-  fits-or-rests = by (wideFits s t) refl
+  -- a pair fits and is none of the four, or it leaves a remainder and is one of them
+  pub fits-or-not : ((isOneOfFour s t ≡ false) × Fits s t across down) ⊎ ((isOneOfFour s t ≡ true) × Remainder s t)
+  fits-or-not = by (wideFits s t) refl
     where
-      listed : isOneOfFour s t ≡ leavesRest s t
-      listed = alike isOneOfFour leavesRest four-rest larger smaller
+      listed : isOneOfFour s t ≡ leavesRemainder s t
+      listed = alike isOneOfFour leavesRemainder four-remain larger smaller
 
-      by : (b : Bool) → wideFits s t ≡ b → ((isOneOfFour s t ≡ false) × Fits s t across down) ⊎ ((isOneOfFour s t ≡ true) × Rest s t)
+      by : (b : Bool) → wideFits s t ≡ b → ((isOneOfFour s t ≡ false) × Fits s t across down) ⊎ ((isOneOfFour s t ≡ true) × Remainder s t)
       by true e = inl (listed ∙ rw (p .sizes, e), fits e)
-      by false e = inr (listed ∙ rw (p .sizes, e), rest e)
+      by false e = inr (listed ∙ rw (p .sizes, e), remainder e)

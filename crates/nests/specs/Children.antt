@@ -7,6 +7,7 @@ use mathlib.Core.Bool.{true}
 use mathlib.Core.List.{List, [], _∷_, flatMap, List·Memᴰ}
 use mathlib.Core.Logic.{_↔_}
 use lib.IntN.{ℤ, natAbs, _-ℤ_}
+use lib.ListN.{length}
 use Rattle.refusal.specs.Paper.{Paper, answer, refused}
 use Rattle.division.specs.Words.{from}
 use Rattle.division.specs.Table.{isScale, parentScale, parts}
@@ -14,13 +15,14 @@ use Rattle.division.specs.Sheet.{isSheet, scaleOf, groundOf}
 use Rattle.relations.specs.Relations.{child}
 use Rattle.nests.specs.Nesting.{Has, Share, LiesIn}
 
--- the children of sheet n at scale s: what is answered for the numbers from 1 on
-abbrev pub answered : Paper ℕ → List ℕ
-answered (answer k) = k ∷ []
-answered (refused number value) = []
+-- what is answered, as a list: of a refusal none
+abbrev pub listOf : Paper ℕ → List ℕ
+listOf (answer k) = k ∷ []
+listOf (refused number value) = []
 
+-- the children of sheet n at scale s, by their numbers in it
 unfoldable pub children : ℕ → ℕ → List ℕ
-children n s = flatMap (λ number. answered (child n s number)) (from 1 (parts s))
+children n s = flatMap (λ number. listOf (child n s number)) (from 1 (parts s))
 
 -- the area of a sheet in square millimetres, by its corners; and of sheets, added up
 abbrev pub areaOf : ℕ → ℕ
@@ -32,9 +34,10 @@ areas (k ∷ l) = areaOf k + areas l
 
 -- of sheet n and a scale that is made from its scale
 pub record ChildrenFill (n s : ℕ) : Type 0 where
-  -- the list has every child
+  -- the list has every child and nothing else, each once
   pub each : (k : ℕ) → List·Memᴰ k (children n s) ↔ ((number : ℕ) × (child n s number ≡ answer k))
-  -- they "share no point": two that do have the same number
+  pub count : length (children n s) ≡ parts s
+  -- they "share no point": two that do have the same number in the sheet
   pub apart : (i j a b : ℕ) → child n s i ≡ answer a → child n s j ≡ answer b → Share a b → i ≡ j
   -- each lies in the sheet
   pub inside : (number k : ℕ) → child n s number ≡ answer k → LiesIn k n

@@ -1,10 +1,10 @@
 -- Which scales nest. Document 02, l): "Staff keep assuming that small sheets lie inside larger ones. Prove it over all 36 pairs of scales".
 -- The claim is `WhichScalesNest`, at the end; the theorem is `which-scales-nest` in proofs/NestingTheorems. Nothing here is part of a promise:
 -- it speaks of points and sheets in the definitions that promises cite (`Holds`: division/specs/Theorems).
-use Prim.Native.Nat.{ℕ}
+use Prim.Native.Nat.{ℕ, _<_}
 use mathlib.Core.Path.{_≡_}
 use mathlib.Core.Bool.{Bool, true, false, _&&_, _||_, not}
-use mathlib.Core.List.{List, [], _∷_, flatMap}
+use mathlib.Core.List.{flatMap}
 use mathlib.Core.Logic.{_⊎_, _↔_}
 use lib.IntN.{ℤ}
 use lib.ListN.{length}
@@ -64,6 +64,7 @@ pub record Overlaps (s t : ℕ) : Type 0 where
 abbrev pub areSmaller : ℕ → ℕ → Bool
 areSmaller t s = width t <? width s && height t <? height s
 
+-- two scales, the first with the larger sheets
 pub record IsPair (s t : ℕ) : Type 0 where
   pub larger : isScale s ≡ true
   pub smaller : isScale t ≡ true
@@ -73,27 +74,14 @@ pub record IsPair (s t : ℕ) : Type 0 where
 abbrev pub howMany : (ℕ → ℕ → Bool) → ℕ
 howMany test = length (flatMap (λ s. keep (λ t. areSmaller t s && test s t) (from 1 9)) (from 1 9))
 
-pub record Pair : Type 0 where
-  pub larger : ℕ
-  pub smaller : ℕ
-
-abbrev pair : ℕ → ℕ → Pair
-pair s t = record { larger = s; smaller = t }
-
--- "1:250 000 with 1:100 000, 1:25 000 with 1:10 000, 1:25 000 with 1:2 000, 1:5 000 with 1:2 000", by the numbers of the scales
-abbrev pub four : List Pair
-four = pair 1 2 ∷ pair 4 5 ∷ pair 4 7 ∷ pair 6 7 ∷ []
-
-abbrev isIn : List Pair → ℕ → ℕ → Bool
-isIn [] s t = false
-isIn (p ∷ l) s t = (p .larger =? s && p .smaller =? t) || isIn l s t
-
+-- "1:250 000 with 1:100 000, 1:25 000 with 1:10 000, 1:25 000 with 1:2 000, 1:5 000 with 1:2 000". Scales 1 to 9 are 1:250 000, 1:100 000,
+-- 1:50 000, 1:25 000, 1:10 000, 1:5 000, 1:2 000, 1:1 000 and 1:500
 abbrev pub isOneOfFour : ℕ → ℕ → Bool
-isOneOfFour s t = isIn four s t
+isOneOfFour s t = (s =? 1 && t =? 2) || (s =? 4 && t =? 5) || (s =? 4 && t =? 7) || (s =? 6 && t =? 7)
 
 pub record WhichScalesNest : Type 0 where
-  -- "all 36 pairs of scales": of any two scales one has the smaller sheets
-  pub any-two : (s t : ℕ) → isScale s ≡ true → isScale t ≡ true → (s ≡ t → ⊥) → IsPair s t ⊎ IsPair t s
+  -- "all 36 pairs of scales": of any two scales the one with the lower number has the larger sheets
+  pub any-two : (s t : ℕ) → isScale s ≡ true → isScale t ≡ true → s < t → IsPair s t
   pub thirty-six : howMany (λ s t. true) ≡ 36
   -- "for 32 of them two sheets either share no point or the smaller lies in the larger", and for no other
   pub nest : (s t : ℕ) → IsPair s t → Nests s t ↔ (isOneOfFour s t ≡ false)

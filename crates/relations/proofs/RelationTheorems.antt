@@ -1,6 +1,6 @@
 -- Parent and child undo each other, a step and an offset too, and the neighbours are the eight steps around the sheet: all of it is the
 -- place of a sheet, moved on its grid or divided by the parts of its parent. Assumes nothing.
-use mathlib.Core.Path.{_≡_, refl, sym, ap, ap₂, _∙_, subst}
+use mathlib.Core.Path.{_≡_, sym, ap, ap₂, _∙_, subst}
 use mathlib.Core.Bool.{true, false}
 use mathlib.Core.List.{[], _∷_}
 use Prim.Native.Nat.{ℕ, _+_, _-_, _*_, _/_, _%_, _≤_, _<_}
@@ -16,12 +16,13 @@ use Rattle.division.specs.declared.Place.{Place}
 use Rattle.relations.specs.declared.Offset.{Offset}
 use Rattle.relations.specs.declared.Neighbour.{Neighbour}
 use Rattle.relations.specs.declared.Neighbour.the-variants.{Sheet, None}
-use Rattle.division.specs.Words.{_≤?_}
+use Rattle.division.specs.Words.{_≤?_, between}
 use Rattle.division.specs.Table.{isScale, width, height, rows, columns, parentScale, side, parts, first}
 use Rattle.division.specs.Grid.{millimetres, within, edgesOf}
 use Rattle.division.specs.Sheet.{isSheet, scaleOf, indexOf, placeOf, sheetOf, groundOf, partIndex, childPlace}
 use Rattle.relations.specs.Relations.{isPart, parent, child, moved, stays, walk, step, apart, offset, orNone, neighbours}
 use Rattle.division.specs.Given.{OnGrid, Indexed}
+use Rattle.division.proofs.TestLaws.{in-between}
 use Rattle.division.proofs.MadeLaws.{place, quot, left-few}
 use Rattle.division.proofs.TableLaws.{scale, is-scale, rules}
 use Rattle.division.proofs.NumberLaws.{Ranged, scale-is, ranged, on-grid, sheet-place, scale-sheet, place-sheet, is-sheet}
@@ -79,9 +80,13 @@ child-has-parent n s number {k} e =
 pub child-tells : (n s i j : ℕ) {k : ℕ} → child n s i ≡ answer k → child n s j ≡ answer k → i ≡ j
 child-tells n s i j e f = sym (number-index (child-answered n s i e)) ∙ number-index (child-answered n s j f)
 
+-- there is a child of each number that the scale has
+pub child-there : (n s number : ℕ) → isSheet n ≡ true → isScale s ≡ true → parentScale s ≡ scaleOf n → between 1 (parts s) number ≡ true → child n s number ≡ answer (first s + partIndex (parts s) (indexOf n) number)
+unfolding child
+child-there n s number h i f b = rw (h, i, eq-eqb (parentScale s) (scaleOf n) f, b)
+
 -- a sheet that has a parent is one of its children
 again : (k n : ℕ) → isSheet k ≡ true → 1 ≤ parentScale (scaleOf k) → n ≡ first (parentScale (scaleOf k)) + indexOf k / parts (scaleOf k) → child n (scaleOf k) (indexOf k % parts (scaleOf k) + 1) ≡ answer k
-unfolding child
 again k n h z e =
     let s = scaleOf k in
     let i = indexOf k in
@@ -89,12 +94,12 @@ again k n h z e =
     let r = ranged k h in
     let t : Ranged (parentScale s) n = record { scale = above (r .scale) d; low = omega (arith, e); high = omega (arith, e, parent-in k h d) } in
     let q : scaleOf n ≡ parentScale s = scale-is (parentScale s) n t in
-    let f : n - first (parentScale s) ≡ i / parts s = omega (arith, e) in
+    let f : indexOf n ≡ i / parts s = ap (λ (u : ℕ). n - first u) q ∙ omega (arith, e) in
     let g : isSheet n ≡ true = le-leb n 7_953_173 (omega (arith, e, parent-low k h d)) in
     let few : i % parts s + 1 ≤ parts s = left-few (side s) i (parted (r .scale) d .some) in
     let sum : first s + (i / parts s * parts s + (i % parts s + 1 - 1)) ≡ k = omega (arith, div-add-mod' i (parts s), r .low) in
-    rw (g, is-scale (r .scale), q, eq-eqb (parentScale s) (parentScale s) refl, le-leb 1 (i % parts s + 1) (omega arith), le-leb (i % parts s + 1) (parts s) few, f)
-    (ap answer sum)
+    child-there n s (i % parts s + 1) g (is-scale (r .scale)) (sym q) (in-between 1 (parts s) (i % parts s + 1) (omega arith) few)
+    ∙ ap (λ (j : ℕ). answer (first s + partIndex (parts s) j (i % parts s + 1))) f ∙ ap answer sum
 
 pub parent-has-child : (k : ℕ) {n : ℕ} → parent k ≡ answer n → (number : ℕ) × (child n (scaleOf k) number ≡ answer k)
 unfolding parent
