@@ -58,6 +58,7 @@ wideFits s t = goesInto (width t) (width s)
 abbrev highFits : ℕ → ℕ → Bool
 highFits s t = goesInto (height t) (height s)
 
+-- a height goes into another exactly if the width does
 high-as-wide : passing highFits ≡ passing wideFits
 unfolding from keep table tableRow
 high-as-wide = refl
