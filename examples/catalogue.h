@@ -1,5 +1,6 @@
 /* What the examples over catalogues have in common: the accepted lines of a file, how refused ones are told, and rows. The program that
- * includes it has defined PROGRAM, by which it speaks of itself, and may have defined WORDS, which says in words what a number of refusal is. */
+ * includes it has defined PROGRAM, by which it speaks of itself, and may have defined WORDS, a function that says in words what a number of
+ * refusal is: line_in_words, or one of its own, which may ask that one for the rest. */
 #ifndef CATALOGUE_H
 #define CATALOGUE_H
 
@@ -57,6 +58,33 @@ static uint8_t *bytes_of(const char *path, size_t *length)
     fclose(file);
     return bytes;
 }
+
+/* What a refusal of a label or a line is, in words. */
+static inline const char *line_in_words(uint32_t status)
+{
+    switch (status) {
+    case QUBATHIMI_LABEL_LENGTH:
+        return "the label is empty or has more than 16 bytes";
+    case QUBATHIMI_STRANGE_BYTE:
+        return "this byte is neither a digit nor a hyphen; at the end it may be a carriage return";
+    case QUBATHIMI_FIELD_FORM:
+        return "this number is missing or has a leading zero";
+    case QUBATHIMI_NAMES_NO_SCALE:
+        return "no label begins with this number and has so many behind it";
+    case QUBATHIMI_FIELD_RANGE:
+        return "this number is out of range";
+    case QUBATHIMI_NAME_SCALE:
+        return "sheets of this scale have no names, so nothing may stand behind the label";
+    case QUBATHIMI_NAME_FORM:
+        return "the name is badly formed";
+    default:
+        return "see docs/REFUSALS.md";
+    }
+}
+
+#ifdef WORDS
+static const char *WORDS(uint32_t status);
+#endif
 
 /* Of a refusal that carries a place, whether or not it is 0, that place too. */
 static void print_refusal(FILE *file, uint32_t status, uint64_t place)

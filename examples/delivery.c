@@ -23,7 +23,9 @@
  *
  * Ends with 0 where the delivery is complete; with 2 where it is not or a line is refused, which is for the firm to mend; and with 1 where
  * nothing can be said of it: the window is refused, the file cannot be read, the rows cannot be written or it is called otherwise. */
-#include "qubathimi.h"
+#define PROGRAM "delivery"
+#define WORDS in_words
+#include "catalogue.h"
 
 static const char *in_words(uint32_t status)
 {
@@ -36,28 +38,10 @@ static const char *in_words(uint32_t status)
         return "the window reaches outside the area, which has E 200 000 m to 800 000 m and N 4 570 000 m to 5 170 000 m";
     case QUBATHIMI_TOO_MANY:
         return "the window has more than 4 096 sheets, too many for one check";
-    case QUBATHIMI_LABEL_LENGTH:
-        return "the label is empty or has more than 16 bytes";
-    case QUBATHIMI_STRANGE_BYTE:
-        return "this byte is neither a digit nor a hyphen; at the end it may be a carriage return";
-    case QUBATHIMI_FIELD_FORM:
-        return "this number is missing or has a leading zero";
-    case QUBATHIMI_NAMES_NO_SCALE:
-        return "no label begins with this number and has so many behind it";
-    case QUBATHIMI_FIELD_RANGE:
-        return "this number is out of range";
-    case QUBATHIMI_NAME_SCALE:
-        return "sheets of this scale have no names, so nothing may stand behind the label";
-    case QUBATHIMI_NAME_FORM:
-        return "the name is badly formed";
     default:
-        return "see docs/REFUSALS.md";
+        return line_in_words(status);
     }
 }
-
-#define PROGRAM "delivery"
-#define WORDS in_words
-#include "catalogue.h"
 
 /* ---- The window ---- */
 

@@ -18,7 +18,9 @@
  *
  * Ends with 0 where all is printed or written; with 1 where a file cannot be read, the list or the rows cannot be written or it is called
  * otherwise; and with 2 where the text or the list is refused. */
-#include "qubathimi.h"
+#define PROGRAM "holdings"
+#define WORDS in_words
+#include "catalogue.h"
 
 static const char *in_words(uint32_t status)
 {
@@ -39,10 +41,6 @@ static const char *in_words(uint32_t status)
         return "see docs/REFUSALS.md";
     }
 }
-
-#define PROGRAM "holdings"
-#define WORDS in_words
-#include "catalogue.h"
 
 /* The marks of the products 1 and 2, by scale. Product 0 has none. */
 static const char *const marks[QUBATHIMI_LAST_SCALE + 1][3] = {

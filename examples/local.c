@@ -15,35 +15,19 @@
  * Ends with 0 where everything asked is answered; with 1 where the file cannot be read or is no municipality, the rows cannot be written or it
  * is called otherwise; and with 2 where nothing of that is so but a row has "none": a script that asks for one sheet need not look at the row,
  * and does not take a sheet from next door for a broken file. */
-#include "qubathimi.h"
+#define PROGRAM "local"
+#define WORDS in_words
+#include "catalogue.h"
 
 static const char *in_words(uint32_t status)
 {
     switch (status) {
-    case QUBATHIMI_LABEL_LENGTH:
-        return "the label is empty or has more than 16 bytes";
-    case QUBATHIMI_STRANGE_BYTE:
-        return "this byte is neither a digit nor a hyphen; at the end it may be a carriage return";
-    case QUBATHIMI_FIELD_FORM:
-        return "this number is missing or has a leading zero";
-    case QUBATHIMI_NAMES_NO_SCALE:
-        return "no label begins with this number and has so many behind it";
-    case QUBATHIMI_FIELD_RANGE:
-        return "this number is out of range";
-    case QUBATHIMI_NAME_SCALE:
-        return "sheets of this scale have no names, so nothing may stand behind the label";
-    case QUBATHIMI_NAME_FORM:
-        return "the name is badly formed";
     case QUBATHIMI_NO_SUCH:
         return "the municipality has no such sheet at 1:2 000, 1:1 000 or 1:500";
     default:
-        return "see docs/REFUSALS.md";
+        return line_in_words(status);
     }
 }
-
-#define PROGRAM "local"
-#define WORDS in_words
-#include "catalogue.h"
 
 /* the scale 1:2 000 */
 #define MUNICIPAL 7

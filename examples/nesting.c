@@ -1,6 +1,6 @@
 /* Which scale's sheets lie in which, and how any two sheets lie: asked of the library, sheet by sheet and point by point.
  *
- *     nesting                   of each scale, whether its sheets lie in one sheet of each larger scale, and the first two that do not
+ *     nesting                   of any two scales, whether each of the smaller sheets lies in one of the larger, and the first that does not
  *     nesting LABEL LABEL       how two sheets lie, with points that show it
  *     nesting -p LABEL LABEL    the same as a picture, in SVG
  *
@@ -9,9 +9,10 @@
  *
  * Without labels it prints a table, a row and a column for each scale: "in" where every sheet of the row's scale lies in one sheet of the
  * column's, "part" where some sheet does not, "same" where the two scales are one, and "." where the row's sheets are the larger ones, so
- * that the cell to look at is the one with row and column exchanged. Then for each "part" a line with the first two sheets that overlap in
- * part, the larger one of the lowest number and with it the smaller one of the lowest number, and of how many sheets it is so; then how many
- * pairs of scales are of which kind. For this every sheet of all nine scales is asked about, at every scale whose sheets are larger.
+ * that the cell to look at is the one with row and column exchanged. Then comes a line for each "part": two sheets that overlap in part, the
+ * larger one of the lowest number and with it the smaller one of the lowest number, and how many of the smaller sheets run across an edge;
+ * and last how many pairs of scales are of which kind. For this every sheet of all nine scales is asked about, at every scale whose sheets
+ * are larger.
  *
  * For two labels it prints one of these, whichever of the two stands first,
  *
@@ -20,34 +21,15 @@
  *     50-109-11 and 50-109-11 are the same sheet
  *     250-101-1 and 100-101-3 overlap in part: 100-101-3 runs across the east edge of 250-101-1
  *
- * and then, as far as there are such, a point A that is in both, B that is in the first alone and C that is in the second alone, each with
- * the sheets that it lies in at the two scales. The picture has the two sheets to scale, north up, with these points, the ground that is in
- * both, and in thin lines the smaller scale's sheets that cover the larger sheet, where they are at most 4 096.
+ * and then, where there is one, a point A that is in both, B that is in the first alone and C that is in the second alone, each with the
+ * sheets that it lies in at the two scales. The picture has the two sheets to scale, but at least a pixel wide and high, north up, with these
+ * points, the ground that is in both, and in thin lines the sheets of the smaller one's scale that cover the larger one, where they are at
+ * most 4 096 and not too small to be told apart.
  *
  * Refused labels are told on standard error. Ends with 0, and with 1 where a label is refused, what is printed cannot be written or it is
  * called otherwise. */
-#include "qubathimi.h"
-
-static const char *in_words(uint32_t status)
-{
-    switch (status) {
-    case QUBATHIMI_LABEL_LENGTH:
-        return "the label is empty or has more than 16 bytes";
-    case QUBATHIMI_STRANGE_BYTE:
-        return "this byte is neither a digit nor a hyphen";
-    case QUBATHIMI_FIELD_FORM:
-        return "this number is missing or has a leading zero";
-    case QUBATHIMI_NAMES_NO_SCALE:
-        return "no label begins with this number and has so many behind it";
-    case QUBATHIMI_FIELD_RANGE:
-        return "this number is out of range";
-    default:
-        return "see docs/REFUSALS.md";
-    }
-}
-
 #define PROGRAM "nesting"
-#define WORDS in_words
+#define WORDS line_in_words
 #include "catalogue.h"
 
 #define SCALES QUBATHIMI_LAST_SCALE
@@ -63,7 +45,7 @@ static const char *const scales[SCALES + 1] = {
 static void answered(uint32_t status, bool possible)
 {
     if (status != 0 || !possible) {
-        fprintf(stderr, "nesting: the library has an answer that cannot be, with the status %" PRIu32 "\n", status);
+        fprintf(stderr, "nesting: the library gave an answer that cannot be, with the status %" PRIu32 "\n", status);
         exit(1);
     }
 }
@@ -118,7 +100,7 @@ static void print_number(int64_t number)
     }
 }
 
-/* Millimetres as metres. All that is printed are edges, which are whole metres. */
+/* Millimetres as metres. Only the coordinates of edges are printed, and these are whole metres. */
 static void print_metres(int64_t millimetres)
 {
     print_number(millimetres / 1000);
@@ -151,8 +133,9 @@ static int rising(const void *a, const void *b)
 }
 
 /* Two sheets, and of each kind the northernmost point, of those in its row the westernmost, out of sixteen: where an edge of either or its
- * prolongation meets another. These are enough. The edges cut the ground into pieces that lie in the same sheets throughout, and each piece
- * owns its north-west corner, which is one of the sixteen. In which sheets each of them lies is asked, and not worked out. */
+ * extension meets another. These are enough. The edges and their extensions cut the ground into pieces. Each of the two sheets has a piece
+ * whole or has no point of it, and a piece that either of them has owns its north-west corner, which is one of the sixteen. In which sheets
+ * each of the sixteen lies is asked, and not worked out. */
 static struct two two_of(uint32_t one, uint32_t other)
 {
     struct two two = {.sheets = {sheet_of(one), sheet_of(other)}};
@@ -176,7 +159,7 @@ static struct two two_of(uint32_t one, uint32_t other)
     return two;
 }
 
-/* The larger sheet's place among the two: the first one's where they are of one scale. */
+/* Which of the two sheets is the larger one, 0 or 1: the first where they are of one scale. */
 static int larger_of(const struct two *two)
 {
     return is_larger(two->sheets[1].scale, two->sheets[0].scale);
@@ -253,13 +236,14 @@ static int print_two(const struct two *two)
 
 /* ---- All sheets ---- */
 
-/* Of a scale and one whose sheets are larger: how many sheets lie in no one sheet of the larger scale, and the first that overlap in part. */
+/* Of a scale and one whose sheets are larger: how many of the smaller sheets do not lie in one larger sheet, and the first two sheets that
+ * overlap in part. */
 struct nesting {
     uint32_t parted, larger, smaller;
 };
 
-/* Counts a sheet that lies in these four sheets of a larger scale, not all the same. Sheets come in rising order, so that of those with one
- * larger sheet the first stays. */
+/* Counts a sheet whose outermost points lie in these four larger sheets, which are not all the same. Sheets come in rising order, so of those
+ * that overlap the same larger sheet the first stays. */
 static void part(struct nesting *nesting, uint32_t sheet, const uint32_t in[4])
 {
     for (int i = 0; i < 4; i++) {
@@ -273,7 +257,7 @@ static void part(struct nesting *nesting, uint32_t sheet, const uint32_t in[4])
 
 /* Asks about all sheets of a scale. A sheet's own points are those from its north-west corner to the point a millimetre inside its south-east
  * one. Both of these belong to it, and it lies in another sheet exactly if they do: all sheets are rectangles along the same two directions.
- * Where the two lie in different sheets, these and the other two outermost points tell all larger sheets that it shares a point with. */
+ * Where the two lie in different sheets, they and the other two outermost points tell all larger sheets that it shares a point with. */
 static void ask_scale(uint32_t scale, struct nesting of[SCALES + 1])
 {
     uint32_t larger[SCALES], count = 0, last = qubathimi_last(scale);
@@ -364,13 +348,17 @@ static int print_all(void)
 /* ---- The picture ---- */
 
 /* Places on the page are in tenths of a pixel, in whole numbers, so that every machine draws the same. The drawing lies between the margins,
- * below the heading and a band for a label; behind it come another band, a bar that shows the scale, and the legend. */
+ * below the heading and a band for a label; below it come another band, a bar that shows the scale, and the legend. */
 #define PAGE 7600
 #define MARGIN 400
 #define TOP 900
 #define HIGHEST 5200
 #define ROW 200
 #define GAP 120
+/* a sheet is drawn at least so wide and high */
+#define LEAST 10
+/* a sheet that is less wide would be hidden by a dot, or not be told apart from its neighbours */
+#define NARROW 60
 
 /* The ground that is drawn, and how: `wide` tenths for `over` millimetres. */
 struct view {
@@ -394,7 +382,12 @@ static int64_t y_of(const struct view *view, int64_t n)
     return TOP + (view->north - n) * view->wide / view->over;
 }
 
-/* The least ground that has all these sheets, as large as it fits between the margins and not above HIGHEST. */
+static bool is_narrow(const struct view *view, const struct sheet *sheet)
+{
+    return x_of(view, sheet->east) - x_of(view, sheet->west) < NARROW;
+}
+
+/* Adds a sheet to the view: the least ground that has it too, drawn as large as fits between the margins, and not higher than HIGHEST. */
 static void widen(struct view *view, const struct sheet *sheet)
 {
     view->west = sheet->west < view->west ? sheet->west : view->west;
@@ -435,9 +428,15 @@ static void print_line(int64_t x1, int64_t y1, int64_t x2, int64_t y2, const cha
     printf(" %s/>\n", style);
 }
 
+static int64_t at_least(int64_t least, int64_t tenths)
+{
+    return tenths < least ? least : tenths;
+}
+
 static void print_ground(const struct view *view, int64_t west, int64_t east, int64_t south, int64_t north, const char *style)
 {
-    print_box(x_of(view, west), x_of(view, east), y_of(view, north), y_of(view, south), style);
+    int64_t left = x_of(view, west), upper = y_of(view, north);
+    print_box(left, at_least(left + LEAST, x_of(view, east)), upper, at_least(upper + LEAST, y_of(view, south)), style);
 }
 
 static void print_sheet(const struct view *view, const struct sheet *sheet, const char *style)
@@ -527,8 +526,20 @@ static void print_label(const struct view *view, const struct two *two, const st
     end_text();
 }
 
+/* Whether a dot at this place would hide one of the sheets. */
+static bool hides(const struct view *view, const struct two *two, int64_t x, int64_t y)
+{
+    for (int i = 0; i < 2; i++) {
+        const struct sheet *sheet = &two->sheets[i];
+        if (is_narrow(view, sheet) && llabs(x - x_of(view, sheet->west)) < 100 && llabs(y - y_of(view, sheet->north)) < 100) {
+            return true;
+        }
+    }
+    return false;
+}
+
 /* The letters stand beside their points, with white around them: those in both, in the larger one alone and in the smaller one alone each on
- * a side of their own, so that they do not meet where the points do. */
+ * a side of their own, so that they do not meet where the points do. A dot that would hide a sheet is left out. */
 static void print_points(const struct view *view, const struct two *two)
 {
     static const struct {
@@ -549,8 +560,10 @@ static void print_points(const struct view *view, const struct two *two)
         }
     }
     for (int kind = 0; kind < KINDS; kind++) {
-        if (two->points[kind].found) {
-            print_dot(x_of(view, two->points[kind].e), y_of(view, two->points[kind].n));
+        const struct point *point = &two->points[kind];
+        int64_t x = x_of(view, point->e), y = y_of(view, point->n);
+        if (point->found && !hides(view, two, x, y)) {
+            print_dot(x, y);
         }
     }
 }
@@ -655,11 +668,13 @@ static void print_keys(const struct two *two, uint64_t covering, int64_t y)
         print_box(MARGIN, MARGIN + 140, y - 110, y + 20, thin);
         print_box(MARGIN + 140, MARGIN + 280, y - 110, y + 20, thin);
         begin_text(800, y, "start", "");
-        printf("the %" PRIu64 " sheets of %s that cover %s", covering, scales[small->scale], large->label);
+        printf("the ");
+        print_number((int64_t)covering);
+        printf(" sheets of %s that cover %s", scales[small->scale], large->label);
         end_text();
     } else if (small->scale != large->scale) {
         begin_text(800, y, "start", "");
-        printf("the sheets of %s that cover %s are too many to be drawn", scales[small->scale], large->label);
+        printf("the sheets of %s that cover %s are too many or too small to be drawn", scales[small->scale], large->label);
         end_text();
     }
 }
@@ -692,8 +707,11 @@ static int print_picture(const struct two *two)
         struct sheet sheet = sheet_of(cover[i]);
         widen(&view, &sheet);
     }
+    if (is_narrow(&view, small)) {
+        covering = 0;
+    }
 
-    /* The legend has at most nine rows, two of which are heads. The page is as high as whole pixels. */
+    /* The legend has at most nine rows, two of which are heads. The page is whole pixels high. */
     int64_t bar = y_of(&view, view.south) + 560, legend = bar + 440, page = (legend + 9 * ROW + 2 * GAP) / 10 * 10;
     printf("<svg xmlns=\"http://www.w3.org/2000/svg\" width=\"%d\" height=\"%d\" ", PAGE / 10, (int)(page / 10));
     printf("viewBox=\"0 0 %d %d\" role=\"img\" font-family=\"sans-serif\" font-size=\"12\">\n<title>", PAGE / 10, (int)(page / 10));
@@ -701,7 +719,7 @@ static int print_picture(const struct two *two)
     printf("</title>\n<desc>");
     print_how(two);
     print_across(two);
-    printf(". Both are drawn to scale, north up.</desc>\n");
+    printf(". Both are drawn to scale%s, north up.</desc>\n", is_narrow(&view, small) ? ", but at least a pixel wide and high" : "");
     printf("<defs><pattern id=\"hatch\" width=\"7\" height=\"7\" patternUnits=\"userSpaceOnUse\" patternTransform=\"rotate(45)\">"
            "<line x1=\"0\" y1=\"0\" x2=\"0\" y2=\"7\" stroke=\"#555\" stroke-width=\"2\"/></pattern></defs>\n");
     print_box(0, PAGE, 0, page, "fill=\"#fff\"");
