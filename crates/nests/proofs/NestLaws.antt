@@ -1,6 +1,6 @@
--- Where a size is so many times another, dividing by the one is dividing by the other and then by how many times: so the row and the column
--- at the larger scale follow from those at the smaller one, and a smaller sheet lies in the one larger sheet at the place that they lead to.
--- Assumes nothing.
+-- Where a size is so many times another, dividing by the one is dividing by the other and then by how many times: so a point's row and column
+-- among the larger sheets follow from those among the smaller ones, and a smaller sheet lies in the larger sheet that they lead to. Assumes
+-- nothing.
 use mathlib.Core.Path.{_≡_, refl, sym, ap, _∙_, subst}
 use mathlib.Core.Bool.{Bool, true, false}
 use mathlib.Core.Logic.{_⊎_, inl, inr}
@@ -26,7 +26,7 @@ pub record Fits (s t across down : ℕ) : Type 0 where
   pub wide : millimetres (width s) ≡ millimetres (width t) * across
   pub high : millimetres (height s) ≡ millimetres (height t) * down
 
--- the place of the larger scale in which a place of the smaller one lies
+-- the place among the larger sheets in which a place among the smaller ones lies
 abbrev pub around : ℕ → ℕ → Place → Place
 around across down p = record { row = p .row / down; column = p .column / across }
 
