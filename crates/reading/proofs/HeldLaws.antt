@@ -9,7 +9,7 @@ use lib.ListN.{length, getD, take, drop, length-drop}
 use lib.Seq.{getD-take}
 use Rattle.refusal.specs.Paper.{answer}
 use Rattle.label.specs.Text.{value}
-use Rattle.label.specs.Label.{wellFormed, numbersIn}
+use Rattle.label.specs.Label.{scaleNamed, wellFormed, numbersIn}
 use Rattle.label.proofs.SplitLaws.{some-pieces}
 use Rattle.label.proofs.NamedLaws.{scaleFrom, named}
 use Rattle.reading.specs.Given.{numbersOf, Held, Fields}
@@ -49,8 +49,12 @@ drop-take (suc n) [] = take-none (suc n - 1)
 drop-take (suc n) (x ∷ l) = rw (sub-one (suc n))
 
 module _ {vs values : List ℕ} {count : ℕ} (h : Held vs values count) where
-  pub first-held : 0 < count → getD values 0 0 ≡ getD vs 0 0
+  first-held : 0 < count → getD values 0 0 ≡ getD vs 0 0
   first-held l = sym (getD-take count values 0 0 l) ∙ ap (λ (l : List ℕ). getD l 0 0) (h .front)
+
+  -- they name what the first number held and their count name
+  pub named-by : 0 < count → scaleNamed (getD values 0 0) count ≡ scaleFrom vs
+  named-by l = ap (λ (m : ℕ). scaleNamed m count) (first-held l) ∙ ap (λ (k : ℕ). scaleNamed (getD vs 0 0) k) (h .counted)
 
   pub others-held : take (count - 1) (drop 1 values) ≡ drop 1 vs
   others-held = drop-take count values ∙ ap (λ (l : List ℕ). drop 1 l) (h .front)

@@ -1,253 +1,376 @@
--- The index that fields name, once over how a scale is made. Assumes nothing.
-use mathlib.Core.Path.{_≡_, refl, sym, ap, _∙_}
-use mathlib.Core.Bool.{Bool, true, false, cond, _&&_}
-use mathlib.Core.List.{List, _∷_}
-use Prim.Native.Nat.{ℕ, _+_, _-_, _*_, _≤_, _<_}
-use native.Mathlib.Nat.{add-zero, mul-add, mul-comm, mul-assoc, mul-le-mul-left, le-trans}
-use native.Mathlib.Numerals.{add-one}
+-- What fields make at a scale, once over how it is made: the reach of the place above it, and what the number there adds. Assumes nothing.
+use mathlib.Core.Path.{_≡_, refl, sym, ap, ap₂, _∙_, subst}
+use mathlib.Core.Bool.{Bool, true, false, not, cond, _&&_}
+use mathlib.Core.List.{List}
+use mathlib.Core.Logic.{⊎-elim}
+use Prim.Native.Nat.{ℕ, _+_, _-_, _*_, _/_, _%_, _≤_, _<_}
+use native.Mathlib.Nat.{add-mul, mul-assoc, mul-le-mul-right, eq-or-lt-of-le}
 use native.Mathlib.Omega.{arith}
-use lib.ListN.{length, getD, drop, length-drop}
-use lib.Seq.{drop-cons, getD-drop}
+use borrow.Author.Tests.{not-true, not-false}
+use lib.IntN.{ℤ, pos}
+use lib.ListN.{length, getD, take, drop, length-drop}
+use lib.Seq.{take-all}
 use mir.Val.{boolByte}
-use Rattle.refusal.specs.Paper.{Paper, answer, refused, refuse_at_unless_, _>>_}
+use Rattle.refusal.specs.Paper.{Paper, answer, refused, refuse_at_unless_, _>>_, _>>=_}
+use Rattle.division.specs.declared.Edges.{Edges}
+use Rattle.division.specs.declared.Place.{Place}
 use Rattle.division.specs.Words.{between}
-use Rattle.division.specs.declared.table.Row.{Row}
-use Rattle.division.specs.Table.{Made, ofScale, made, rows, columns, parentScale, side, sheets, first, codeRow}
-use Rattle.division.specs.Sheet.{indexAt, partIndex}
-use Rattle.division.specs.Given.{IsScale}
-use Rattle.division.proofs.TestLaws.{between-in}
-use Rattle.division.proofs.MadeLaws.{Sound, sheetsOf, index<}
-use Rattle.division.proofs.TableLaws.{rules}
-use Rattle.division.proofs.FamilyLaws.{top, deep, above, parted, sheets-by, each-few, square-few}
-use Rattle.reading.specs.declared.labels.Reckoned.{Reckoned}
-use Rattle.reading.specs.declared.labels.Reckoned.the-variants.{At, Out}
+use Rattle.division.specs.Table.{Made, ofArea, ofScale, table, tableRow, rowsOf, columnsOf, width, height, made, rows, columns, parentScale, side, parts, first}
+use Rattle.division.specs.Grid.{millimetres, westOf, northOf, edgesOf}
+use Rattle.division.specs.Sheet.{indexAt, sheetOf, groundOf}
+use Rattle.division.specs.Given.{IsScale, OnGrid}
+use Rattle.division.proofs.TestLaws.{both, between-in}
+use Rattle.division.proofs.MadeLaws.{Sound}
+use Rattle.division.proofs.TableLaws.{Each, each, rules}
+use Rattle.division.proofs.NumberLaws.{index-few, scale-sheet, place-sheet}
+use Rattle.division.proofs.FamilyLaws.{top, deep, above, parted}
+use Rattle.division.proofs.GridLaws.{high-in, north-is}
 use Rattle.label.specs.Text.{every, firstNot, split}
 use Rattle.label.specs.Label.{countOf, ranges, inRange, firstOut, placeFrom, startOf, numbersIn, sheetNamed}
-use Rattle.reading.specs.Given.{Fields, reckon, reckonArea, reckonBelow}
-use Rattle.label.proofs.FieldLaws.{count-ranges, on-from, index-part}
+use Rattle.label.proofs.FieldLaws.{AreaRange, count-ranges, on-from, index-part}
 use Rattle.label.proofs.PlaceLaws.{first-some}
+use Rattle.reading.specs.declared.Front.{Front}
+use Rattle.reading.specs.declared.ground.Reach.{Reach}
+use Rattle.reading.specs.declared.ground.Reckoned.{Reckoned}
+use Rattle.reading.specs.declared.ground.Reckoned.the-variants.{At, Out}
+use Rattle.reading.specs.Given.{Fields, InReach, reachOf, reckon, cornersAt, frontAt, frontNamed}
 
--- the first field out of range is one of those that are judged
-pub first-out-few : (m : Made) (fs : List ℕ) → inRange m fs ≡ false → firstOut m fs < countOf m
-unfolding inRange firstOut
-first-out-few m fs e = omega (arith, first-some (λ good. good) (ranges m fs) e, count-ranges m fs)
+-- ---- sizes in hundreds of metres
 
--- what is reckoned is an index of the scale
-pub reckon-few : (m : Made) (fs : List ℕ) {i : ℕ} → Sound m → reckon m fs ≡ At i → i < sheetsOf m
-unfolding reckon
-reckon-few m fs {i} s e = by (inRange m fs) refl e
+-- a width or a height: so many fill the area, as many as there are parts that way fill the one above, and it is a whole number of hundreds
+record Size (count side size above : ℕ) : Type 0 where
+  fills : count * (size / 100) ≡ 6_000
+  parts : side * (size / 100) ≡ above / 100
+  whole : millimetres size ≡ size / 100 * 100_000
+
+record Sized (s : ℕ) : Type 0 where
+  wide : Size (columns s) (side s) (width s) (width (parentScale s))
+  high : Size (rows s) (side s) (height s) (height (parentScale s))
+
+nine : Each Sized 9
+unfolding table tableRow rowsOf columnsOf
+nine = search tt
+
+sized : {s : ℕ} → IsScale s → Sized s
+sized {s} h = each Sized 9 nine s (h .one) (h .nine)
+
+module _ {count side size above : ℕ} (z : Size count side size above) where
+  -- a place ends within the area
+  ends-in : (i : ℕ) → i < count → i * (size / 100) + size / 100 ≤ 6_000
+  ends-in i l =
+      let m : (i + 1) * (size / 100) ≤ count * (size / 100) = mul-le-mul-right (size / 100) (omega arith) in
+      omega (arith, m, add-mul i 1 (size / 100), z .fills)
+
+  -- so many times the size in millimetres
+  times : (i : ℕ) → i * millimetres size ≡ i * (size / 100) * 100_000
+  times i = ap (λ (n : ℕ). i * n) (z .whole) ∙ sym (mul-assoc i (size / 100) 100_000)
+
+-- ---- fields, once over how a scale is made
+
+-- the row and the column, or the number of a part, are in range
+abbrev pub rowIn : ℕ → List ℕ → Bool
+rowIn rows fs = between 101 (100 + rows) (getD fs 0 0)
+
+abbrev pub columnIn : ℕ → List ℕ → Bool
+columnIn columns fs = between 1 columns (getD fs 1 0)
+
+abbrev pub partIn : ℕ → List ℕ → Bool
+partIn parts fs = between 1 parts (getD fs 0 0)
+
+-- what fields make of the area in c columns, and of a reach in k × k, for sheets that are so wide and so high
+abbrev areaReach : ℕ → ℕ → ℕ → List ℕ → Reach
+areaReach c w h fs =
+    let row = getD fs 0 0 - 101 in
+    let column = getD fs 1 0 - 1 in
+    record { index = row * c + column; right = column * w; down = row * h }
+
+abbrev partReach : ℕ → ℕ → ℕ → List ℕ → Reach → Reach
+partReach k w h fs up =
+    let j = getD fs 0 0 - 1 in
+    record { index = up .index * (k * k) + j; right = up .right + j % k * w; down = up .down + j / k * h }
+
+abbrev onPart : ℕ → ℕ → ℕ → List ℕ → Reckoned → Reckoned
+onPart k w h fs (At up) = At (partReach k w h fs up)
+onPart k w h fs (Out i) = Out (1 + i)
+
+abbrev reckonBy : Made → ℕ → ℕ → List ℕ → Reckoned
+reckonBy m w h fs =
+    let p = placeFrom m fs in
+    cond (inRange m fs) (At (record { index = indexAt m p; right = p .column * w; down = p .row * h })) (Out (firstOut m fs))
+
+reckon-area : (r c w h : ℕ) (fs : List ℕ) → reckonBy (ofArea r c) w h fs ≡ cond (rowIn r fs && columnIn c fs) (At (areaReach c w h fs)) (Out (boolByte (rowIn r fs)))
+unfolding inRange firstOut ranges every firstNot indexAt placeFrom
+reckon-area r c w h fs = by (rowIn r fs) (columnIn c fs)
   where
-    by : (b : Bool) → inRange m fs ≡ b → cond b (At (indexAt m (placeFrom m fs))) (Out (firstOut m fs)) ≡ At i → i < sheetsOf m
-    by true t e = let q : indexAt m (placeFrom m fs) ≡ i = cc in omega (arith, index< m (placeFrom m fs) s (on-from m fs s t))
-    by false t e = let z : _≡_ {A = ℕ} 0 1 = cc in absurd (omega arith)
+    by : (a b : Bool) → cond (a && (b && true)) (At (areaReach c w h fs)) (Out (cond a (1 + cond b (1 + 0) 0) 0)) ≡ cond (a && b) (At (areaReach c w h fs)) (Out (boolByte a))
+    by true true = refl
+    by true false = refl
+    by false b = refl
 
--- of a part of a parent that is reckoned; a number out of range hides what is above
-abbrev onPart : ℕ → ℕ → Reckoned → Reckoned
-onPart k number (At up) = At (partIndex (k * k) up number)
-onPart k number (Out j) = Out (1 + j)
+reach : {a b c d e f : ℕ} → a ≡ d → b ≡ e → c ≡ f → _≡_ {A = Reach} (record { index = a; right = b; down = c }) (record { index = d; right = e; down = f })
+reach p q r = λ i. record { index = p i; right = q i; down = r i }
 
-abbrev reckonPart : ℕ → ℕ → Reckoned → Reckoned
-reckonPart k number above = cond (between 1 (k * k) number) (onPart k number above) (Out 0)
+-- so far to the right, or down, in sizes and in those of what is above
+spread : (a k b size : ℕ) → (a * k + b) * size ≡ a * (k * size) + b * size
+spread a k b size = omega (arith, add-mul (a * k) b size, mul-assoc a k size)
 
-reckon-part : (z : ℕ) (m : Made) (k : ℕ) (fs : List ℕ) → Sound (ofScale z m k) → reckon (ofScale z m k) fs ≡ reckonPart k (getD fs 0 0) (reckon m (drop 1 fs))
-unfolding reckon inRange firstOut ranges every firstNot
-reckon-part z m k fs s = by (between 1 (k * k) (getD fs 0 0)) refl (inRange m (drop 1 fs)) refl
+reckon-part : (z : ℕ) (m : Made) (k w h : ℕ) (fs : List ℕ) → Sound (ofScale z m k) → reckonBy (ofScale z m k) w h fs ≡ cond (partIn (k * k) fs) (onPart k w h fs (reckonBy m (k * w) (k * h) (drop 1 fs))) (Out 0)
+unfolding inRange firstOut ranges every firstNot placeFrom
+reckon-part z m k w h fs s = by (partIn (k * k) fs) refl (inRange m (drop 1 fs)) refl
   where
-    by : (a : Bool) → between 1 (k * k) (getD fs 0 0) ≡ a → (b : Bool) → inRange m (drop 1 fs) ≡ b
-        → cond (a && b) (At (indexAt (ofScale z m k) (placeFrom (ofScale z m k) fs))) (Out (cond a (1 + firstOut m (drop 1 fs)) 0)) ≡ cond a (onPart k (getD fs 0 0) (cond b (At (indexAt m (placeFrom m (drop 1 fs)))) (Out (firstOut m (drop 1 fs))))) (Out 0)
-    by true e true f = ap At (index-part z m k fs s (rw (e, f)))
+    j : ℕ
+    j = getD fs 0 0 - 1
+
+    up : Place
+    up = placeFrom m (drop 1 fs)
+
+    here : Reach
+    here = record { index = indexAt (ofScale z m k) (placeFrom (ofScale z m k) fs); right = (up .column * k + j % k) * w; down = (up .row * k + j / k) * h }
+
+    above : Reach
+    above = record { index = indexAt m up; right = up .column * (k * w); down = up .row * (k * h) }
+
+    by : (a : Bool) → partIn (k * k) fs ≡ a → (b : Bool) → inRange m (drop 1 fs) ≡ b
+        → cond (a && b) (At here) (Out (cond a (1 + firstOut m (drop 1 fs)) 0)) ≡ cond a (onPart k w h fs (cond b (At above) (Out (firstOut m (drop 1 fs))))) (Out 0)
+    by true e true f = ap At (reach (index-part z m k fs s (rw (e, f))) (spread (up .column) k (j % k) w) (spread (up .row) k (j / k) h))
     by true e false f = refl
     by false e b f = refl
 
--- ---- a scale that is made from the area
+-- ---- what is reckoned
 
-module _ {s : ℕ} {fs : List ℕ} (h : Fields s fs) (e : parentScale s ≡ 0) where
-  pub two-fields : 2 ≤ length fs
-  unfolding countOf
-  two-fields = omega (arith, h .enough, ap countOf (top (h .scale) e))
+-- the reach that fields make, at a scale that is made from the area and at one that is made from another
+abbrev pub topReach : ℕ → List ℕ → Reach
+topReach s fs = areaReach (columns s) (width s / 100) (height s / 100) fs
 
-  pub reckon-top : reckon (made s) fs ≡ reckonArea (rows s) (columns s) (getD fs 0 0) (getD fs 1 0)
-  unfolding reckon inRange firstOut ranges every firstNot indexAt placeFrom
-  reckon-top = ap (λ (m : Made). reckon m fs) (top (h .scale) e) ∙ by (between 101 (100 + rows s) (getD fs 0 0)) (between 1 (columns s) (getD fs 1 0))
+abbrev pub deepReach : ℕ → List ℕ → Reach → Reach
+deepReach s fs up = partReach (side s) (width s / 100) (height s / 100) fs up
+
+abbrev deepOn : ℕ → List ℕ → Reckoned → Reckoned
+deepOn s fs r = onPart (side s) (width s / 100) (height s / 100) fs r
+
+reckon-by : (s : ℕ) (fs : List ℕ) {m : Made} → made s ≡ m → reckon s fs ≡ reckonBy m (width s / 100) (height s / 100) fs
+unfolding reckon
+reckon-by s fs e = ap (λ (m : Made). reckonBy m (width s / 100) (height s / 100) fs) e
+
+-- the reach of a place of the grid is within the area
+reach-in : {s : ℕ} {p : Place} → OnGrid s p → InReach s (reachOf s p)
+reach-in {s} {p} o =
+    let z = sized (o .scale) in
+    record {
+      scale = o .scale;
+      indexed = index-few o;
+      wide = ends-in (z .wide) (p .column) (o .in-columns);
+      high = ends-in (z .high) (p .row) (o .in-rows);
+    }
+
+pub few-index : {s : ℕ} {x : Reach} → InReach s x → x .index < 6_000_000
+few-index i = omega (arith, i .indexed, rules (i .scale) .few)
+
+pub few-sheet : {s : ℕ} {x : Reach} → InReach s x → first s + x .index < 7_953_174
+few-sheet i = omega (arith, i .indexed, rules (i .scale) .low)
+
+-- the fields behind the first, as the code hands them on
+abbrev others : List ℕ → List ℕ
+others fs = take (length fs - 1) (drop 1 fs)
+
+others-are : (fs : List ℕ) → others fs ≡ drop 1 fs
+others-are fs = take-all (length fs - 1) (drop 1 fs) (omega (arith, length-drop 1 fs))
+
+-- a place whose reach it is
+record Reached (s : ℕ) (x : Reach) : Type 0 where
+  place : Place
+  on : OnGrid s place
+  is : reachOf s place ≡ x
+
+module _ {s : ℕ} {fs : List ℕ} (h : Fields s fs) where
+  reached : {x : Reach} → reckon s fs ≡ At x → Reached s x
+  unfolding reckon
+  reached {x} e = by (inRange (made s) fs) refl e
     where
-      index : ℕ
-      index = (getD fs 0 0 - 101) * columns s + (getD fs 1 0 - 1)
+      p : Place
+      p = placeFrom (made s) fs
 
-      by : (a b : Bool) → cond (a && (b && true)) (At index) (Out (cond a (1 + cond b (1 + 0) 0) 0)) ≡ cond (a && b) (At index) (Out (boolByte a))
-      by true true = refl
-      by true false = refl
-      by false b = refl
+      by : (b : Bool) → inRange (made s) fs ≡ b → cond b (At (reachOf s p)) (Out (firstOut (made s) fs)) ≡ At x → Reached s x
+      by true t f =
+          let o = on-from (made s) fs (rules (h .scale) .sound) t in
+          record { place = p; on = record { scale = h .scale; in-rows = o .in-rows; in-columns = o .in-columns }; is = cc }
+      by false t f = let z : _≡_ {A = ℕ} 0 1 = cc in absurd (omega arith)
 
--- the first field out of range is the row or the column
-area-out : (r c row column j : ℕ) → reckonArea r c row column ≡ Out j → j ≤ 1
-area-out r c row column j e = by (between 101 (100 + r) row) (between 1 c column) e
-  where
-    by : (a b : Bool) → cond (a && b) (At ((row - 101) * c + (column - 1))) (Out (boolByte a)) ≡ Out j → j ≤ 1
-    by true true f = let z : _≡_ {A = ℕ} 0 1 = cc in absurd (omega arith)
-    by true false f = let g : 1 ≡ j = cc in omega arith
-    by false b f = let g : 0 ≡ j = cc in omega arith
+  pub reckon-reach : {x : Reach} → reckon s fs ≡ At x → InReach s x
+  reckon-reach e = let r = reached e in subst (InReach s) (r .is) (reach-in (r .on))
 
--- ---- a scale that is made from its parent's
+  -- a field out of range is one of those there are
+  pub out-few : {i : ℕ} → reckon s fs ≡ Out i → i < length fs
+  unfolding reckon inRange firstOut
+  out-few {i} e = by (inRange (made s) fs) refl e
+    where
+      by : (b : Bool) → inRange (made s) fs ≡ b → cond b (At (reachOf s (placeFrom (made s) fs))) (Out (firstOut (made s) fs)) ≡ Out i → i < length fs
+      by true t f = let z : _≡_ {A = ℕ} 0 1 = cc in absurd (omega arith)
+      by false t f =
+          let q : firstOut (made s) fs ≡ i = cc in
+          omega (arith, q, first-some (λ good. good) (ranges (made s) fs) t, count-ranges (made s) fs, h .enough)
 
-module _ {s : ℕ} {fs : List ℕ} (h : Fields s fs) (e : parentScale s ≡ 0 → ⊥) where
-  count-deep : countOf (made s) ≡ 1 + countOf (made (parentScale s))
-  unfolding countOf
-  count-deep = ap countOf (deep (h .scale) e)
+  -- at a scale that is made from the area
+  module _ (e : parentScale s ≡ 0) where
+    pub two-fields : 2 ≤ length fs
+    unfolding countOf
+    two-fields = omega (arith, h .enough, ap countOf (top (h .scale) e))
 
-  pub a-field : 1 ≤ length fs
-  a-field = omega (arith, h .enough, count-deep)
+    -- by the code's flags for the row and the column
+    module _ {a b : Bool} (p : a ≡ rowIn (rows s) fs) (q : b ≡ columnIn (columns s) fs) where
+      reckon-top : reckon s fs ≡ cond (a && b) (At (topReach s fs)) (Out (boolByte a))
+      reckon-top = reckon-by s fs (top (h .scale) e) ∙ reckon-area (rows s) (columns s) (width s / 100) (height s / 100) fs ∙ rw (p, q)
 
-  pub fields-above : Fields (parentScale s) (drop 1 fs)
-  fields-above = record { scale = above (h .scale) e; enough = omega (arith, h .enough, count-deep, length-drop 1 fs) }
+      pub top-out : not (a && b) ≡ true → Out (boolByte a) ≡ reckon s fs
+      top-out f = sym (reckon-top ∙ rw (not-true (a && b) f))
 
-  pub reckon-deep : reckon (made s) fs ≡ reckonPart (side s) (getD fs 0 0) (reckon (made (parentScale s)) (drop 1 fs))
-  reckon-deep = ap (λ (m : Made). reckon m fs) (deep (h .scale) e) ∙ reckon-part (parentScale s) (made (parentScale s)) (side s) fs (parted (h .scale) e .some, rules (above (h .scale) e) .sound)
+      module _ (f : not (a && b) ≡ false) where
+        pub top-at : At (topReach s fs) ≡ reckon s fs
+        top-at = sym (reckon-top ∙ rw (not-false (a && b) f))
 
--- ---- the index, parent by parent
+        pub top-reach : InReach s (topReach s fs)
+        top-reach = reckon-reach (sym top-at)
 
--- a number out of range is the first that is so, and one in range makes a part of what is above
-part-out : (k number i index each : ℕ) (above : Reckoned) → between 1 (k * k) number ≡ false → reckonBelow i index each (reckonPart k number above) ≡ Out i
-part-out k number i index each above e = rw (e, add-zero i)
+        pub top-range : AreaRange (rows s) (columns s) fs
+        top-range =
+            let t = both a b (not-false (a && b) f) in
+            let x = between-in 101 (100 + rows s) (getD fs 0 0) (sym p ∙ t .0) in
+            let y = between-in 1 (columns s) (getD fs 1 0) (sym q ∙ t .1) in
+            record { row-low = x .0; row-high = x .1; column-low = y .0; column-high = y .1 }
 
-part-below : (k number i index each : ℕ) (above : Reckoned) → between 1 (k * k) number ≡ true → reckonBelow i index each (reckonPart k number above) ≡ reckonBelow (i + 1) (index + each * (number - 1)) (each * (k * k)) above
-part-below k number i index each above e = rw e (by above)
-  where
-    by : (above : Reckoned) → reckonBelow i index each (onPart k number above) ≡ reckonBelow (i + 1) (index + each * (number - 1)) (each * (k * k)) above
-    by (At up) =
-        let q : index + each * (up * (k * k) + (number - 1)) ≡ index + each * (number - 1) + each * (k * k) * up =
-        omega (arith, mul-add each (up * (k * k)) (number - 1), ap (λ (n : ℕ). each * n) (mul-comm up (k * k)), mul-assoc each (k * k) up) in
-        ap At q
-    by (Out j) = ap Out (omega arith)
+  -- at a scale that is made from another
+  module _ (e : parentScale s ≡ 0 → ⊥) where
+    count-deep : countOf (made s) ≡ 1 + countOf (made (parentScale s))
+    unfolding countOf
+    count-deep = ap countOf (deep (h .scale) e)
 
-below-all : (above : Reckoned) → above ≡ reckonBelow 0 0 1 above
-below-all (At up) = ap At (omega arith)
-below-all (Out j) = ap Out (omega arith)
+    pub a-field : 1 ≤ length fs
+    a-field = omega (arith, h .enough, count-deep)
 
--- the fields before i are reckoned: they make `index` of the `each` sheets below one at `up`
-pub record Reckoning (s : ℕ) (fs : List ℕ) (t : Row) (i index each : ℕ) : Type 0 where
-  pub up : ℕ
-  pub row : t ≡ codeRow up
-  pub scale : IsScale s
-  pub fields : Fields up (drop i fs)
-  pub all : sheets s ≡ each * sheets up
-  pub less : index < each
-  pub rest : reckon (made s) fs ≡ reckonBelow i index each (reckon (made up) (drop i fs))
+    pub fields-above : {up : ℕ} → parentScale s ≡ up → Fields up (others fs)
+    fields-above f = subst (λ (t : ℕ). Fields t (others fs)) f (rw (others-are fs) (record { scale = above (h .scale) e; enough = omega (arith, h .enough, count-deep, length-drop 1 fs) }))
 
-pub reckoning-first : {s : ℕ} {fs : List ℕ} (t : Row) → t ≡ codeRow s → Fields s fs → Reckoning s fs t 0 0 1
-reckoning-first {s} {fs} t e h = record {
-  up = s;
-  row = e;
-  scale = h .scale;
-  fields = h;
-  all = omega arith;
-  less = omega arith;
-  rest = below-all (reckon (made s) fs);
-}
+    pub reckon-above : {up : ℕ} {r : Reckoned} → parentScale s ≡ up → r ≡ reckon up (others fs) → r ≡ reckon (parentScale s) (drop 1 fs)
+    reckon-above f g = g ∙ rw (f, others-are fs)
 
-module _ {s : ℕ} {fs : List ℕ} {t : Row} {i index each : ℕ} (c : Reckoning s fs t i index each) where
-  -- at the area
-  module _ (e : t .parent ≡ 0) where
-    top-parent : parentScale (c .up) ≡ 0
-    top-parent = rw (c .row) at e
+    pub some-parts : 0 < side s
+    some-parts = parted (h .scale) e .some
 
-    pub last-fields : i + 2 ≤ length fs
-    last-fields = omega (arith, two-fields (c .fields) top-parent, length-drop i fs)
+    reckon-deep : reckon s fs ≡ cond (partIn (parts s) fs) (deepOn s fs (reckon (parentScale s) (drop 1 fs))) (Out 0)
+    reckon-deep =
+        let z = sized (h .scale) in
+        let m = made (parentScale s) in
+        reckon-by s fs (deep (h .scale) e) ∙ reckon-part (parentScale s) m (side s) (width s / 100) (height s / 100) fs (some-parts, rules (above (h .scale) e) .sound) ∙ rw (z .wide .parts, z .high .parts, ← reckon-by (parentScale s) (drop 1 fs) refl)
 
-    pub area-few : t .rows * t .columns ≤ 6_000_000
-    area-few = rw (c .row) (rules (c .fields .scale) .few)
+    -- a number out of range is the first that is so, and one in range makes a part of what is above
+    pub part-out : partIn (parts s) fs ≡ false → Out 0 ≡ reckon s fs
+    part-out f = sym (reckon-deep ∙ rw f)
 
-    module _ (top : Reckoned) (f : top ≡ reckonArea (t .rows) (t .columns) (getD fs i 0) (getD fs (i + 1) 0)) where
-      at-top : top ≡ reckon (made (c .up)) (drop i fs)
-      at-top = rw (c .row) at f ∙ sym (reckon-top (c .fields) top-parent ∙ rw (getD-drop i fs 0 0, getD-drop i fs 1 0, add-zero i))
+    module _ (f : partIn (parts s) fs ≡ true) where
+      pub part-range : (1 ≤ getD fs 0 0) × (getD fs 0 0 ≤ parts s)
+      part-range = between-in 1 (parts s) (getD fs 0 0) f
 
-      pub top-below : (up : ℕ) → top ≡ At up → index + each * up < 6_000_000
-      top-below up g =
-          let l : up < sheets (c .up) = reckon-few (made (c .up)) (drop i fs) (rules (c .fields .scale) .sound) (sym at-top ∙ g) in
-          let m : each * (up + 1) ≤ each * sheets (c .up) = mul-le-mul-left each (omega arith) in
-          omega (arith, m, mul-add each up 1, c .all, c .less, rules (c .scale) .few)
+      pub part-on : {r : Reckoned} → reckon (parentScale s) (drop 1 fs) ≡ r → deepOn s fs r ≡ reckon s fs
+      part-on g = sym (reckon-deep ∙ rw (f, g))
 
-      pub top-out : (j : ℕ) → top ≡ Out j → j ≤ 1
-      top-out j g = area-out (t .rows) (t .columns) (getD fs i 0) (getD fs (i + 1) 0) j (sym f ∙ g)
+      pub part-out-few : {i : ℕ} → reckon (parentScale s) (drop 1 fs) ≡ Out i → 1 + i < length fs
+      part-out-few g = out-few (sym (part-on g))
 
-      pub reckoning-done : reckonBelow i index each top ≡ reckon (made s) fs
-      reckoning-done = rw at-top (sym (c .rest))
+      pub part-reach : {up : Reach} → reckon (parentScale s) (drop 1 fs) ≡ At up → InReach s (deepReach s fs up)
+      part-reach g = reckon-reach (sym (part-on g))
 
-  -- below a parent
-  module _ (e : t .parent ≡ 0 → ⊥) where
-    deep-parent : parentScale (c .up) ≡ 0 → ⊥
-    deep-parent = rw (c .row) at e
+-- ---- from scale to scale
 
-    pub next-field : i < length fs
-    next-field = omega (arith, a-field (c .fields) deep-parent, length-drop i fs)
+-- a scale that is made from scale 3, or from one that is made from another
+pub from-three : (s : ℕ) → parentScale s ≡ 3 → parentScale s ≡ 0 → ⊥
+from-three s e z = omega arith
 
-    pub parts-few : t .parts ≤ 625
-    parts-few = rw (c .row) (square-few (parted (c .fields .scale) deep-parent))
+pub from-made : (s : ℕ) {up : ℕ} → parentScale s ≡ up → (parentScale up ≡ 0 → ⊥) → parentScale s ≡ 0 → ⊥
+unfolding table tableRow
+from-made s e n z = n (ap (λ (t : ℕ). parentScale t) (sym e ∙ z))
 
-    pub each-small : each * t .parts ≤ 6_000_000
-    each-small = rw (c .row) (le-trans (each-few (c .fields .scale) deep-parent (sheets s) each (c .all)) (rules (c .scale) .few))
+-- the arm that is taken is the scale asked
+pub arm : {s n : ℕ} {fs : List ℕ} → Fields s fs → s ≡ n → Fields n fs
+arm {fs = fs} h e = subst (λ (t : ℕ). Fields t fs) e h
 
-    pub higher : codeRow (t .parent) .parent < t .parent
-    higher = rw (c .row) (rules (above (c .fields .scale) deep-parent) .above)
+pub at-scale : {s n : ℕ} (fs : List ℕ) {r : Reckoned} → s ≡ n → r ≡ reckon n fs → r ≡ reckon s fs
+at-scale fs e f = f ∙ ap (λ (t : ℕ). reckon t fs) (sym e)
 
-    here : drop i fs ≡ getD fs i 0 ∷ drop (i + 1) fs
-    here = drop-cons fs i 0 next-field ∙ rw (add-one i)
+-- and a scale that is none of the first eight is the ninth
+after : (n : ℕ) {s : ℕ} → n ≤ s → (s ≡ n → ⊥) → n + 1 ≤ s
+after n h e = ⊎-elim (λ z. absurd (e (sym z))) (λ l. omega arith) (eq-or-lt-of-le h)
 
-    rest-here : reckon (made s) fs ≡ reckonBelow i index each (reckonPart (side (c .up)) (getD fs i 0) (reckon (made (parentScale (c .up))) (drop (i + 1) fs)))
-    rest-here =
-        let k = side (c .up) in
-        let m = made (parentScale (c .up)) in
-        let e : reckonPart k (getD (drop i fs) 0 0) (reckon m (drop 1 (drop i fs))) ≡ reckonPart k (getD fs i 0) (reckon m (drop (i + 1) fs)) = rw here in
-        c .rest ∙ ap (reckonBelow i index each) (reckon-deep (c .fields) deep-parent ∙ e)
-
-    pub reckoning-out : between 1 (t .parts) (getD fs i 0) ≡ false → Out i ≡ reckon (made s) fs
-    reckoning-out f = sym (rest-here ∙ part-out (side (c .up)) (getD fs i 0) i index each (reckon (made (parentScale (c .up))) (drop (i + 1) fs)) (rw (c .row) at f))
-
-    module _ (f : between 1 (t .parts) (getD fs i 0) ≡ true) where
-      pub in-range : (1 ≤ getD fs i 0) × (getD fs i 0 ≤ t .parts)
-      in-range = between-in _ _ _ f
-
-      pub sum-less : index + each * (getD fs i 0 - 1) < each * t .parts
-      sum-less =
-          let m : each * (getD fs i 0 - 1 + 1) ≤ each * t .parts = mul-le-mul-left each (omega (arith, in-range)) in
-          omega (arith, m, mul-add each (getD fs i 0 - 1) 1, c .less)
-
-      pub reckoning-next : (r : Row) → r ≡ codeRow (t .parent) → Reckoning s fs r (i + 1) (index + each * (getD fs i 0 - 1)) (each * t .parts)
-      reckoning-next r g = record {
-        up = parentScale (c .up);
-        row = rw (c .row) at g;
-        scale = c .scale;
-        fields = rw here at (fields-above (c .fields) deep-parent);
-        all = rw (c .row) (sheets-by (c .fields .scale) deep-parent (sheets s) each (c .all));
-        less = sum-less;
-        rest = rest-here ∙ rw (c .row) (part-below (side (c .up)) (getD fs i 0) i index each (reckon (made (parentScale (c .up))) (drop (i + 1) fs)) (rw (c .row) at f));
-      }
+pub ninth : {s : ℕ} → IsScale s → (s ≡ 1 → ⊥) → (s ≡ 2 → ⊥) → (s ≡ 3 → ⊥) → (s ≡ 4 → ⊥) → (s ≡ 5 → ⊥) → (s ≡ 6 → ⊥) → (s ≡ 7 → ⊥) → (s ≡ 8 → ⊥) → s ≡ 9
+ninth {s} h one two three four five six seven eight =
+    let l : 9 ≤ s = after 8 (after 7 (after 6 (after 5 (after 4 (after 3 (after 2 (after 1 (h .one) one) two) three) four) five) six) seven) eight in
+    omega (arith, h .nine)
 
 -- ---- the sheet
 
--- the sheet of an index of a scale, or "5: a label field out of range"
-abbrev pub reckoned : ℕ → List ℕ → Reckoned → Paper ℕ
-reckoned s bytes (At i) = answer (first s + i)
+-- the sheet of what is reckoned, or "5: a label field out of range"
+abbrev reckoned : ℕ → List ℕ → Reckoned → Paper ℕ
+reckoned s bytes (At x) = answer (first s + x .index)
 reckoned s bytes (Out i) = refused 5 (startOf (1 + i) (split 45 bytes))
 
-pub sheet-reckoned : (s : ℕ) (bytes : List ℕ) → sheetNamed s bytes ≡ reckoned s bytes (reckon (made s) (drop 1 (numbersIn bytes)))
+sheet-reckoned : (s : ℕ) (bytes : List ℕ) → sheetNamed s bytes ≡ reckoned s bytes (reckon s (drop 1 (numbersIn bytes)))
 unfolding sheetNamed reckon
 sheet-reckoned s bytes = by (inRange (made s) fs)
   where
     fs : List ℕ
     fs = drop 1 (numbersIn bytes)
 
-    by : (b : Bool) → ((refuse 5 at startOf (1 + firstOut (made s) fs) (split 45 bytes) unless b) >> answer (first s + indexAt (made s) (placeFrom (made s) fs))) ≡ reckoned s bytes (cond b (At (indexAt (made s) (placeFrom (made s) fs))) (Out (firstOut (made s) fs)))
+    p : Place
+    p = placeFrom (made s) fs
+
+    by : (b : Bool) → ((refuse 5 at startOf (1 + firstOut (made s) fs) (split 45 bytes) unless b) >> answer (sheetOf s p)) ≡ reckoned s bytes (cond b (At (reachOf s p)) (Out (firstOut (made s) fs)))
     by true = refl
     by false = refl
 
-pub sheet-few : {s i : ℕ} {fs : List ℕ} → Fields s fs → reckon (made s) fs ≡ At i → first s + i < 7_953_174
-sheet-few {s} {fs = fs} h e = omega (arith, reckon-few (made s) fs (rules (h .scale) .sound) e, rules (h .scale) .low)
+-- ---- the corners
 
--- and a field out of range is one of those there are
-pub out-few : {s i : ℕ} {fs : List ℕ} → Fields s fs → reckon (made s) fs ≡ Out i → i < length fs
-unfolding reckon
-out-few {s} {i} {fs} h e = by (inRange (made s) fs) refl e
+module _ {s : ℕ} (h : IsScale s) where
+  west-at : (i : ℕ) → pos ((2_000 + i * (width s / 100)) * 100_000) ≡ westOf s i
+  west-at i = ap pos (omega (arith, times (sized h .wide) i))
+
+  north-at : (i : ℕ) → i ≤ rows s → pos ((51_700 - i * (height s / 100)) * 100_000) ≡ northOf s i
+  north-at i l = ap pos (omega (arith, times (sized h .high) i)) ∙ sym (north-is s i (high-in h i l))
+
+-- the next column or row
+next : (i size : ℕ) → i * size + size ≡ (i + 1) * size
+next i size = omega (arith, add-mul i 1 size)
+
+corners-reach : {s : ℕ} {p : Place} → OnGrid s p → cornersAt s (reachOf s p) ≡ groundOf (sheetOf s p)
+unfolding edgesOf
+corners-reach {s} {p} o =
+    let w = width s / 100 in
+    let h = height s / 100 in
+    let east : pos ((2_000 + p .column * w + w) * 100_000) ≡ westOf s (p .column + 1) = ap pos (omega (arith, next (p .column) w)) ∙ west-at (o .scale) (p .column + 1) in
+    let south : pos ((51_700 - p .row * h - h) * 100_000) ≡ northOf s (p .row + 1) = ap pos (omega (arith, next (p .row) h)) ∙ north-at (o .scale) (p .row + 1) (omega (arith, o .in-rows)) in
+    edges (west-at (o .scale) (p .column)) east south (north-at (o .scale) (p .row) (omega (arith, o .in-rows))) ∙ sym (ap₂ edgesOf (scale-sheet o) (place-sheet o))
   where
-    by : (b : Bool) → inRange (made s) fs ≡ b → cond b (At (indexAt (made s) (placeFrom (made s) fs))) (Out (firstOut (made s) fs)) ≡ Out i → i < length fs
-    by true t f = let z : _≡_ {A = ℕ} 0 1 = cc in absurd (omega arith)
-    by false t f = let q : firstOut (made s) fs ≡ i = cc in omega (arith, first-out-few (made s) fs t, h .enough)
+    edges : {a b c d e f g h : ℤ} → a ≡ e → b ≡ f → c ≡ g → d ≡ h → _≡_ {A = Edges} (record { west = a; east = b; south = c; north = d }) (record { west = e; east = f; south = g; north = h })
+    edges p q r t = λ i. record { west = p i; east = q i; south = r i; north = t i }
+
+-- ---- what a label names by its fields
+
+-- a sheet with its corners and the label's end
+abbrev withGround : List ℕ → Paper ℕ → Paper Front
+withGround bytes p = p >>= λ n. answer (record { sheet = n; corners = groundOf n; end = length bytes })
+
+module _ (s : ℕ) {fs : List ℕ} (bytes : List ℕ) (e : fs ≡ drop 1 (numbersIn bytes)) where
+  pub sheet-named : {r : Reckoned} → reckon s fs ≡ r → reckoned s bytes r ≡ sheetNamed s bytes
+  sheet-named f = sym (sheet-reckoned s bytes ∙ ap (reckoned s bytes) (ap (reckon s) (sym e) ∙ f))
+
+  pub sheet-out : {i k : ℕ} → reckon s fs ≡ Out i → k ≡ startOf (i + 1) (split 45 bytes) → refused 5 k ≡ sheetNamed s bytes
+  sheet-out {i} f g =
+      let q : i + 1 ≡ 1 + i = omega arith in
+      ap (refused 5) (g ∙ ap (λ (n : ℕ). startOf n (split 45 bytes)) q) ∙ sheet-named f
+
+  pub front-at : {x : Reach} → Fields s fs → reckon s fs ≡ At x → answer (frontAt s x (length bytes)) ≡ frontNamed s bytes
+  front-at {x} h f =
+      let r = reached h f in
+      let q : cornersAt s x ≡ groundOf (first s + x .index) = subst (λ (x : Reach). cornersAt s x ≡ groundOf (first s + x .index)) (r .is) (corners-reach (r .on)) in
+      ap (λ (c : Edges). answer (record { sheet = first s + x .index; corners = c; end = length bytes })) q ∙ ap (withGround bytes) (sheet-named f)
+
+  pub front-out : {i k : ℕ} → reckon s fs ≡ Out i → k ≡ startOf (i + 1) (split 45 bytes) → refused 5 k ≡ frontNamed s bytes
+  front-out f g = ap (withGround bytes) (sheet-out f g)

@@ -1,139 +1,162 @@
--- The loop of `numbers_in`: what holds at its head, and what each way through a turn does. Assumes nothing.
-use mathlib.Core.Path.{_≡_, refl, sym, ap, _∙_, subst}
-use mathlib.Core.Bool.{Bool, true, false, cond, _&&_, _||_, and-false, and-true}
-use mathlib.Core.List.{List, [], _∷_, _++_, map, append-nil}
-use Prim.Native.Nat.{ℕ, suc, _+_, _-_, _*_, _^_, _≤_, _<_}
-use native.Mathlib.Nat.{pow-le-pow-right}
+-- The loop of `numbers_in`: what holds where a field begins, and what each way through a turn does. Assumes nothing.
+use mathlib.Core.Path.{_≡_, refl, sym, ap, _∙_}
+use mathlib.Core.Logic.{⊎-elim}
+use mathlib.Core.Bool.{Bool, true, false, cond, _&&_, and-false}
+use mathlib.Core.List.{List, [], _∷_, _++_, map, append-nil, append-assoc}
+use Prim.Native.Nat.{ℕ, suc, _+_, _-_, _*_, _≤_, _<_}
+use native.Mathlib.Nat.{add-zero}
 use native.Mathlib.Numerals.{add-one}
 use native.Mathlib.Omega.{arith}
-use borrow.Author.Tests.{le-leb, lt-leb, ne-eqb}
-use lib.ListN.{length, getD, drop, set, replicate, length-append, length-replicate, drop-of-length-le}
-use lib.Seq.{drop-cons, append-snoc, set-at, take-at}
-use Rattle.division.specs.Words.{between}
-use Rattle.division.proofs.TestLaws.{in-between}
-use Rattle.label.specs.Text.{every, onFirst, split, value}
+use borrow.Author.Tests.{eqb-true, lt-leb}
+use lib.Dec.{eqb}
+use lib.ListN.{length, getD, drop, set, replicate, length-append, length-replicate, drop-of-length-le, List·getD-eq-default}
+use lib.Seq.{drop-cons, drop-drop, getD-drop, append-snoc, set-at, take-at}
+use Rattle.division.proofs.TestLaws.{in-between, between-in, le-or-less}
+use Rattle.label.specs.Text.{every, split, value}
 use Rattle.label.specs.Label.{isLabelByte, isField, wellFormed}
-use Rattle.reading.specs.Given.{numbersOf, Held}
-use Rattle.label.proofs.ValueLaws.{value-snoc}
+use Rattle.reading.specs.declared.numbers.Run.{Run}
+use Rattle.reading.specs.declared.numbers.Scanned.{Scanned}
+use Rattle.reading.specs.Given.{isDigit, beginning, fieldFrom, numbersOf, Held, IsScanned}
 use Rattle.label.proofs.SplitLaws.{split-last, split-piece}
-use Rattle.label.proofs.SpellLaws.{Digits, digits-append, digits-free}
+use Rattle.label.proofs.SpellLaws.{Digits, digits-free}
+use Rattle.reading.proofs.DigitLaws.{begins-on, begins-off, begins-none, on-at}
 
--- ---- bytes
+-- ---- the digits and hyphens that bytes begin with
 
--- digits in front are bytes of a label
-behind-digits : (p t : List ℕ) → Digits p → every isLabelByte (p ++ t) ≡ every isLabelByte t
+abbrev pub front : List ℕ → List ℕ
+front s = beginning isLabelByte s
+
+-- and the digits
+abbrev digits : List ℕ → List ℕ
+digits s = beginning isDigit s
+
+are-digits : (s : List ℕ) → Digits (digits s)
+are-digits [] = rw (begins-none isDigit) tt
+are-digits (b ∷ s) = by (isDigit b) refl (are-digits s)
+  where
+    by : (t : Bool) → isDigit b ≡ t → Digits (digits s) → Digits (digits (b ∷ s))
+    by true e ih = rw (begins-on isDigit b s e) (between-in 48 57 b e, ih)
+    by false e ih = rw (begins-off isDigit b s e) tt
+
+-- digits are digits or hyphens, so they come first
+front-digits : (s : List ℕ) → front s ≡ digits s ++ front (drop (length (digits s)) s)
+front-digits [] = rw (begins-none isDigit)
+front-digits (b ∷ s) = by (isDigit b) refl (front-digits s)
+  where
+    by : (t : Bool) → isDigit b ≡ t → front s ≡ digits s ++ front (drop (length (digits s)) s) → front (b ∷ s) ≡ digits (b ∷ s) ++ front (drop (length (digits (b ∷ s))) (b ∷ s))
+    by true e ih = rw (begins-on isDigit b s e, begins-on isLabelByte b s (rw e)) (ap (λ (l : List ℕ). b ∷ l) ih)
+    by false e ih = rw (begins-off isDigit b s e)
+
+-- behind them there is no digit
+digits-end : (s : List ℕ) → digits (drop (length (digits s)) s) ≡ []
+digits-end [] = rw (begins-none isDigit) (begins-none isDigit)
+digits-end (b ∷ s) = by (isDigit b) refl (digits-end s)
+  where
+    by : (t : Bool) → isDigit b ≡ t → digits (drop (length (digits s)) s) ≡ [] → digits (drop (length (digits (b ∷ s))) (b ∷ s)) ≡ []
+    by true e ih = rw (begins-on isDigit b s e) ih
+    by false e ih = rw (begins-off isDigit b s e) (begins-off isDigit b s e)
+
+-- where there is no digit and no hyphen, there is nothing more; a hyphen is one of them
+no-more : (s : List ℕ) → digits s ≡ [] → eqb (getD s 0 0) 45 ≡ false → front s ≡ []
+no-more [] e h = begins-none isLabelByte
+no-more (b ∷ s) e h = by (isDigit b) refl
+  where
+    by : (t : Bool) → isDigit b ≡ t → front (b ∷ s) ≡ []
+    by true f = let z : suc (length (digits s)) ≡ 0 = ap length (rw (begins-on isDigit b s f) at e) in absurd (omega arith)
+    by false f = begins-off isLabelByte b s (rw (f, h))
+
+hyphen-more : (s : List ℕ) → front (45 ∷ s) ≡ 45 ∷ front s
+hyphen-more s = begins-on isLabelByte 45 s refl
+
+all-pass : (test : ℕ → Bool) (s : List ℕ) → every test (beginning test s) ≡ true
 unfolding every
-behind-digits [] t g = refl
-behind-digits (d ∷ p) t g = rw (in-between 48 57 d (g .0 .0) (g .0 .1)) (behind-digits p t (g .1))
+all-pass test [] = rw (begins-none test)
+all-pass test (b ∷ s) = by (test b) refl (all-pass test s)
+  where
+    by : (t : Bool) → test b ≡ t → every test (beginning test s) ≡ true → every test (beginning test (b ∷ s)) ≡ true
+    by true e ih = rw (begins-on test b s e, e) ih
+    by false e ih = rw (begins-off test b s e)
 
-low-byte : (b : ℕ) → (b ≡ 45 → ⊥) → b < 48 → isLabelByte b ≡ false
-low-byte b n h = rw (lt-leb 48 b h, ne-eqb b 45 n)
+front-within : (s : List ℕ) → length (front s) ≤ length s
+front-within [] = rw (begins-none isLabelByte) (omega arith)
+front-within (b ∷ s) = by (isLabelByte b) refl (front-within s)
+  where
+    by : (t : Bool) → isLabelByte b ≡ t → length (front s) ≤ length s → length (front (b ∷ s)) ≤ length (b ∷ s)
+    by true e ih = rw (begins-on isLabelByte b s e) (omega arith)
+    by false e ih = rw (begins-off isLabelByte b s e) (omega arith)
 
-high-byte : (b : ℕ) → 57 < b → isLabelByte b ≡ false
-high-byte b h = rw (le-leb 48 b (omega arith), lt-leb b 57 h, ne-eqb b 45 (λ e. omega arith))
+-- where a hyphen stands, there is a byte
+byte-there : (s : List ℕ) (i : ℕ) → getD s i 0 ≡ 45 → i < length s
+byte-there s i e = ⊎-elim (λ h. let z : 0 ≡ 45 = sym (List·getD-eq-default s 0 h) ∙ e in absurd (omega arith)) (λ h. h) (le-or-less (length s) i)
 
--- ---- form, from the field that is open
+-- ---- form
 
 abbrev formed : List ℕ → Bool
-formed u = every isLabelByte u && every isField (split 45 u)
+formed u = every isField (split 45 u)
 
+formed-none : formed [] ≡ false
+unfolding every split
+formed-none = refl
+
+-- a field that does not begin with a digit is empty
+formed-closed : (s : List ℕ) → formed (45 ∷ s) ≡ false
+unfolding every split
+formed-closed s = refl
+
+formed-empty : (b : ℕ) (s : List ℕ) → isDigit b ≡ false → formed (front (b ∷ s)) ≡ false
+formed-empty b s e = by (eqb b 45) refl
+  where
+    by : (t : Bool) → eqb b 45 ≡ t → formed (front (b ∷ s)) ≡ false
+    by true h = rw (eqb-true b 45 h, hyphen-more s) (formed-closed (front s))
+    by false h = rw (begins-off isLabelByte b s (rw (e, h))) formed-none
+
+-- the first field decides, or the rest behind its hyphen
 module _ (p : List ℕ) (g : Digits p) where
-  formed-strange : (b : ℕ) (t : List ℕ) → isLabelByte b ≡ false → formed (p ++ (b ∷ t)) ≡ false
+  formed-faulty : (s : List ℕ) → digits s ≡ [] → isField p ≡ false → formed (p ++ front s) ≡ false
   unfolding every
-  formed-strange b t e = rw (behind-digits p (b ∷ t) g, e)
+  formed-faulty s e f = by (eqb (getD s 0 0) 45) refl
+    where
+      last : formed p ≡ false
+      last = rw (split-last 45 p (digits-free p g), f)
 
-  formed-closed : (t : List ℕ) → isField p ≡ true → formed (p ++ (45 ∷ t)) ≡ formed t
-  unfolding every
-  formed-closed t e = rw (behind-digits p (45 ∷ t) g, split-piece 45 p t (digits-free p g), e)
+      more : (t : List ℕ) → formed (p ++ (45 ∷ t)) ≡ false
+      more t = rw (split-piece 45 p t (digits-free p g), f)
 
-  formed-last : formed p ≡ isField p
-  unfolding every
-  formed-last =
-      let e : every isLabelByte p ≡ true = rw append-nil at (behind-digits p [] g) in
-      rw (e, split-last 45 p (digits-free p g)) (and-true (isField p))
+      here : (s : List ℕ) → eqb (getD s 0 0) 45 ≡ true → formed (p ++ front s) ≡ false
+      here [] h = let z : _≡_ {A = ℕ} 0 45 = eqb-true 0 45 h in absurd (omega arith)
+      here (b ∷ s) h = rw (eqb-true b 45 h, hyphen-more s) (more (front s))
 
-formed-empty : (t : List ℕ) → formed (45 ∷ t) ≡ false
-unfolding every split
-formed-empty t = and-false (every isLabelByte t)
+      by : (t : Bool) → eqb (getD s 0 0) 45 ≡ t → formed (p ++ front s) ≡ false
+      by true h = here s h
+      by false h = rw (no-more s e h, append-nil p) last
 
-formed-zero : (b : ℕ) (t : List ℕ) → 48 ≤ b → formed (48 ∷ b ∷ t) ≡ false
-unfolding every split
-formed-zero b t l = rw (ne-eqb b 45 (λ e. omega arith), faulty (split 45 t)) (and-false ((between 48 57 b || false) && every isLabelByte t))
-  where
-    faulty : (ps : List (List ℕ)) → every isField (onFirst 48 (onFirst b ps)) ≡ false
-    faulty [] = refl
-    faulty (q ∷ ps) = refl
+  module _ (f : isField p ≡ true) where
+    formed-last : formed p ≡ true
+    unfolding every
+    formed-last = rw (split-last 45 p (digits-free p g), f)
 
--- ---- the field that is open
+    formed-more : (t : List ℕ) → formed (p ++ (45 ∷ t)) ≡ formed t
+    unfolding every
+    formed-more t = rw (split-piece 45 p t (digits-free p g), f)
 
--- its bytes `p`: none yet, or a field of value `cur`, which is 0 for "0" only
-abbrev pub State : Bool → ℕ → List ℕ → Type 0
-State false cur p = p ≡ []
-State true cur p = (isField p ≡ true) × (cur ≡ value p) × (cur ≡ 0 → p ≡ 48 ∷ [])
+-- ---- the numbers of what is formed, and none of what is not
 
-field-on : (p : List ℕ) (b : ℕ) → isField p ≡ true → (value p ≡ 0 → ⊥) → isField (p ++ (b ∷ [])) ≡ true
-unfolding value
-field-on [] b h z = let n : _≡_ {A = ℕ} 0 1 = cc in absurd (omega arith)
-field-on (d ∷ []) b h z = rw (ne-eqb d 48 (λ e. z (rw e)))
-field-on (d ∷ e ∷ p) b h z = h
+none-formed : (u : List ℕ) → formed u ≡ false → [] ≡ numbersOf u
+unfolding numbersOf wellFormed
+none-formed u e = rw (e, and-false)
 
-state-first : (b : ℕ) → 48 ≤ b → State true (b - 48) (b ∷ [])
-unfolding value
-state-first b l = (refl, omega arith, λ e. ap (λ (x : ℕ). x ∷ []) (let q : b ≡ 48 = omega arith in q))
+none-long : (u : List ℕ) → 16 < length u → [] ≡ numbersOf u
+unfolding numbersOf wellFormed
+none-long u h = rw (lt-leb (length u) 16 h, and-false)
 
-state-on : (p : List ℕ) (cur b : ℕ) → State true cur p → (cur ≡ 0 → ⊥) → State true (cur * 10 + (b - 48)) (p ++ (b ∷ []))
-state-on p cur b w z =
-    (field-on p b (w .0) (λ e. z (w .1 ∙ e)), rw (w .1) (sym (value-snoc p b)), λ e. absurd (z (omega arith)))
-
--- ---- the loop
-
-abbrev bit : Bool → ℕ
-bit true = 1
-bit false = 0
-
--- the numbers `done`, and behind them those of the label u
-abbrev numbersAfter : List ℕ → List ℕ → List ℕ
-numbersAfter done u = cond (formed u) (done ++ map value (split 45 u)) []
-
--- At byte i of s: `done` are the numbers of the fields that are closed, `begun` the bytes of the open one. Those numbers and the
--- numbers from the open field on are the numbers of s.
-pub record Scan (s values : List ℕ) (n : ℕ) (some : Bool) (cur i : ℕ) : Type 0 where
-  pub within : i ≤ length s
-  pub short : length s ≤ 16
-  pub room : 2 * n + bit some ≤ i
-  pub small : cur < 10 ^ i
-  pub done : List ℕ
-  pub count : length done ≡ n
-  pub held : values ≡ done ++ replicate (8 - n) 0
-  pub begun : List ℕ
-  pub digits : Digits begun
-  pub state : State some cur begun
-  pub rest : numbersAfter done (begun ++ drop i s) ≡ numbersOf s
-
-pub begins : (s values : List ℕ) → length s ≤ 16 → values ≡ replicate 8 0 → Scan s values 0 false 0 0
-unfolding numbersOf wellFormed every split
-begins s values h e =
-    record {
-      within = omega arith;
-      short = h;
-      room = omega arith;
-      small = omega arith;
-      done = [];
-      count = refl;
-      held = e;
-      begun = [];
-      digits = tt;
-      state = refl;
-      rest = all s h;
-    }
-  where
-    all : (s : List ℕ) → length s ≤ 16 → numbersAfter [] s ≡ numbersOf s
-    all [] h = refl
-    all (b ∷ s) h = rw (in-between 1 16 (length (b ∷ s)) (omega arith) h)
+some-formed : (s : List ℕ) → 1 ≤ length (front s) → length (front s) ≤ 16 → formed (front s) ≡ true → map value (split 45 (front s)) ≡ numbersOf (front s)
+unfolding numbersOf wellFormed
+some-formed s l h e = rw (in-between 1 16 (length (front s)) l h, all-pass isLabelByte s, e)
 
 -- no numbers are held anywhere
-pub held-none : {vs : List ℕ} (values : List ℕ) → [] ≡ vs → Held vs values 0
-held-none values e = record { counted = ap length e; within = omega arith; front = e }
+pub scanned-none : {s : List ℕ} (values : List ℕ) → [] ≡ numbersOf (front s) → IsScanned s values (record { count = 0; end = 0 })
+scanned-none values e =
+    record { held = record { counted = ap length e; within = omega arith; front = e }; within = omega arith; ends = λ n. absurd (n refl) }
 
 -- one number more is held
 held-on : {values : List ℕ} (done : List ℕ) (n v : ℕ) → n < 8 → length done ≡ n → values ≡ done ++ replicate (8 - n) 0 → set values n v ≡ (done ++ (v ∷ [])) ++ replicate (8 - (n + 1)) 0
@@ -141,118 +164,136 @@ held-on done n v h l e =
     let k : 8 - n ≡ suc (8 - (n + 1)) = omega arith in
     rw (e, k) (set-at done 0 (replicate (8 - (n + 1)) 0) v n l ∙ sym (append-snoc done v (replicate (8 - (n + 1)) 0)))
 
-small-on : (i c d : ℕ) → c < 10 ^ i → d < 10 → c * 10 + d < 10 ^ (i + 1)
-small-on i c d h k = rw add-one (omega arith)
+-- ---- the loop
 
-module _ {s values : List ℕ} {n : ℕ} {some : Bool} {cur i : ℕ} (w : Scan s values n some cur i) where
-  none-begun : some ≡ false → w .begun ≡ []
-  none-begun t = subst (λ (x : Bool). State x cur (w .begun)) t (w .state)
+-- A field begins at place i of s: `done` are the numbers of the fields before it. The fields from there on decide the form, and their
+-- numbers behind those are the numbers of all.
+pub record Scan (s values : List ℕ) (n i : ℕ) : Type 0 where
+  pub short : length s ≤ 17
+  pub within : i ≤ length s
+  pub room : 2 * n ≤ i
+  pub done : List ℕ
+  pub count : length done ≡ n
+  pub held : values ≡ done ++ replicate (8 - n) 0
+  pub long : i + length (front (drop i s)) ≡ length (front s)
+  pub form : formed (front (drop i s)) ≡ formed (front s)
+  pub numbers : done ++ map value (split 45 (front (drop i s))) ≡ map value (split 45 (front s))
 
-  is-begun : some ≡ true → State true cur (w .begun)
-  is-begun t = subst (λ (x : Bool). State x cur (w .begun)) t (w .state)
+pub begins : (s values : List ℕ) → length s ≤ 17 → values ≡ replicate 8 0 → Scan s values 0 0
+begins s values h e =
+    record { short = h; within = omega arith; room = omega arith; done = []; count = refl; held = e; long = omega arith; form = refl; numbers = refl }
 
-  begun-room : some ≡ true → 2 * n + 1 ≤ i
-  begun-room t = subst (λ (x : Bool). 2 * n + bit x ≤ i) t (w .room)
-
+module _ {s values : List ℕ} {n i : ℕ} (w : Scan s values n i) where
   -- there are eight places
-  pub long : length values ≡ 8
-  long = ap length (w .held) ∙ length-append (w .done) (replicate (8 - n) 0) ∙ omega (arith, w .count, length-replicate {A = ℕ} (8 - n) 0, w .room, w .within, w .short)
+  pub eight : length values ≡ 8
+  eight = ap length (w .held) ∙ length-append (w .done) (replicate (8 - n) 0) ∙ omega (arith, w .count, length-replicate {A = ℕ} (8 - n) 0, w .room, w .within, w .short)
 
-  -- a place is left for the number of the open field
-  pub place-left : some ≡ true → n < 8
-  place-left t = omega (arith, begun-room t, w .within, w .short)
+  pub ends-empty : length s ≤ i → [] ≡ numbersOf (front s)
+  ends-empty h = none-formed (front s) (sym (w .form) ∙ rw (drop-of-length-le s h, begins-none isLabelByte) formed-none)
 
   module _ (lt : i < length s) where
-    pub fifteen : cur < 10 ^ 15
-    fifteen = omega (arith, w .small, pow-le-pow-right {n = 10} (omega arith) {i = i} {j = 15} (omega (arith, w .short)))
+    pub empty : isDigit (getD s i 0) ≡ false → [] ≡ numbersOf (front s)
+    empty e = none-formed (front s) (sym (w .form) ∙ rw (drop-cons s i 0 lt) (formed-empty (getD s i 0) (drop (suc i) s) e))
 
-    -- the byte at i comes behind those of the open field
-    next : numbersAfter (w .done) (w .begun ++ (getD s i 0 ∷ drop (i + 1) s)) ≡ numbersOf s
-    next = rw (add-one, ← (drop-cons s i 0)) (w .rest)
+    module _ (e : isDigit (getD s i 0) ≡ true) where
+      -- the field: a first digit and those behind it
+      abbrev pub field : List ℕ
+      field = getD s i 0 ∷ digits (drop (i + 1) s)
 
-    strange : isLabelByte (getD s i 0) ≡ false → [] ≡ numbersOf s
-    strange e = rw (formed-strange (w .begun) (w .digits) (getD s i 0) (drop (i + 1) s) e) at next
+      field-is : digits (drop i s) ≡ field
+      field-is = on-at isDigit s i lt e
 
-    pub strange-low : (getD s i 0 ≡ 45 → ⊥) → getD s i 0 < 48 → [] ≡ numbersOf s
-    strange-low n h = strange (low-byte (getD s i 0) n h)
+      abbrev pub end : ℕ
+      end = i + 1 + length (digits (drop (i + 1) s))
 
-    pub strange-high : 57 < getD s i 0 → [] ≡ numbersOf s
-    strange-high h = strange (high-byte (getD s i 0) h)
+      rest-is : drop (length (digits (drop i s))) (drop i s) ≡ drop end s
+      rest-is = drop-drop (length (digits (drop i s))) i s ∙ ap (λ (k : ℕ). drop k s) end-is
+        where
+          end-is : i + length (digits (drop i s)) ≡ end
+          end-is = omega (arith, ap length field-is)
 
-    pub empty : getD s i 0 ≡ 45 → some ≡ false → [] ≡ numbersOf s
-    empty h t = rw (none-begun t, h, formed-empty (drop (i + 1) s)) at next
+      front-is : front (drop i s) ≡ field ++ front (drop end s)
+      front-is = front-digits (drop i s) ∙ rw (rest-is, field-is)
 
-    pub leading : 48 ≤ getD s i 0 → some ≡ true → cur ≡ 0 → [] ≡ numbersOf s
-    leading l t z = rw (is-begun t .2 z, formed-zero (getD s i 0) (drop (i + 1) s) l) at next
+      stops : digits (drop end s) ≡ []
+      stops = rw rest-is at (digits-end (drop i s))
 
-    pub hyphen : getD s i 0 ≡ 45 → some ≡ true → Scan s (set values n cur) (n + 1) false 0 (i + 1)
-    hyphen h t =
-        let a = is-begun t in
-        let p = w .begun in
-        record {
-          within = omega arith;
-          short = w .short;
-          room = omega (arith, begun-room t);
-          small = omega (arith, small-on i 0 0 (omega (arith, w .small)) (omega arith));
-          done = w .done ++ (cur ∷ []);
-          count = omega (arith, length-append (w .done) (cur ∷ []), w .count);
-          held = held-on (w .done) n cur (place-left t) (w .count) (w .held);
-          begun = [];
-          digits = tt;
-          state = refl;
-          rest = rw (a .1, append-snoc (w .done) (value p)) (rw (h, formed-closed p (w .digits) (drop (i + 1) s) (a .0), split-piece 45 p (drop (i + 1) s) (digits-free p (w .digits))) at next);
-        }
+      of-digits : Digits field
+      of-digits = rw field-is at (are-digits (drop i s))
 
-    module _ (l : 48 ≤ getD s i 0) (h : getD s i 0 ≤ 57) where
-      pub first : some ≡ false → Scan s values n true (getD s i 0 - 48) (i + 1)
-      first t =
-          record {
-            within = omega arith;
-            short = w .short;
-            room = omega (arith, w .room);
-            small = omega (arith, small-on i 0 (getD s i 0 - 48) (omega (arith, w .small)) (omega arith));
-            done = w .done;
-            count = w .count;
-            held = w .held;
-            begun = getD s i 0 ∷ [];
-            digits = ((l, h), tt);
-            state = state-first (getD s i 0) l;
-            rest = rw (none-begun t) at next;
-          }
+      -- what is read of the field, by whether it has a leading zero
+      good-run : isField field ≡ true → fieldFrom s (getD s i 0) (i + 1) ≡ record { value = value field; end = end }
+      good-run f = rw f
 
-      pub more : some ≡ true → (cur ≡ 0 → ⊥) → Scan s values n some (cur * 10 + (getD s i 0 - 48)) (i + 1)
-      more t z =
-          record {
-            within = omega arith;
-            short = w .short;
-            room = omega (arith, w .room);
-            small = small-on i cur (getD s i 0 - 48) (w .small) (omega arith);
-            done = w .done;
-            count = w .count;
-            held = w .held;
-            begun = w .begun ++ (getD s i 0 ∷ []);
-            digits = digits-append (w .begun) (getD s i 0 ∷ []) (w .digits) ((l, h), tt);
-            state = rw t (state-on (w .begun) cur (getD s i 0) (is-begun t) z);
-            rest = rw append-snoc next;
-          }
+      bad-run : isField field ≡ false → fieldFrom s (getD s i 0) (i + 1) ≡ record { value = 0; end = 17 }
+      bad-run f = rw f
 
-  module _ (out : length s ≤ i) where
-    last : numbersAfter (w .done) (w .begun) ≡ numbersOf s
-    last = rw (drop-of-length-le s out, append-nil) at (w .rest)
+      -- a field that ends too far on: the label is too long, or the field has a leading zero
+      pub too-far : (r : Run) → r ≡ fieldFrom s (getD s i 0) (i + 1) → 16 < r .end → [] ≡ numbersOf (front s)
+      too-far r q h = by (isField field) refl
+        where
+          by : (t : Bool) → isField field ≡ t → [] ≡ numbersOf (front s)
+          by true f =
+              let k : r .end ≡ end = ap (λ (x : Run). x .end) (q ∙ good-run f) in
+              none-long (front s) (omega (arith, w .long, ap length front-is, length-append field (front (drop end s)), k))
+          by false f = none-formed (front s) (sym (w .form) ∙ rw front-is (formed-faulty field of-digits (drop end s) stops f))
 
-    pub ends-empty : some ≡ false → [] ≡ numbersOf s
-    unfolding every split
-    ends-empty t = rw (none-begun t) at last
+      -- one that does not
+      pub record Taken (r : Run) : Type 0 where
+        pub good : isField field ≡ true
+        pub is : r .value ≡ value field
+        pub ends : r .end ≡ end
 
-    pub ends : some ≡ true → Held (numbersOf s) (set values n cur) (n + 1)
-    ends t =
-        let a = is-begun t in
-        let p = w .begun in
-        let e : w .done ++ (cur ∷ []) ≡ numbersOf s = rw (a .1) (rw (formed-last p (w .digits), a .0, split-last 45 p (digits-free p (w .digits))) at last) in
-        let l : length (w .done ++ (cur ∷ [])) ≡ n + 1 = omega (arith, length-append (w .done) (cur ∷ []), w .count) in
-        let f : set values n cur ≡ (w .done ++ (cur ∷ [])) ++ replicate (8 - (n + 1)) 0 = held-on (w .done) n cur (place-left t) (w .count) (w .held) in
-        record {
-          counted = sym l ∙ ap length e;
-          within = rw f (omega (arith, l, length-append (w .done ++ (cur ∷ [])) (replicate (8 - (n + 1)) 0)));
-          front = rw f (take-at (w .done ++ (cur ∷ [])) (replicate (8 - (n + 1)) 0) (n + 1) l) ∙ e;
-        }
+      pub taken : (r : Run) → r ≡ fieldFrom s (getD s i 0) (i + 1) → r .end ≤ 16 → Taken r
+      taken r q h = by (isField field) refl
+        where
+          by : (t : Bool) → isField field ≡ t → Taken r
+          by true f = record { good = f; is = ap (λ (x : Run). x .value) (q ∙ good-run f); ends = ap (λ (x : Run). x .end) (q ∙ good-run f) }
+          by false f = let z : r .end ≡ 17 = ap (λ (x : Run). x .end) (q ∙ bad-run f) in absurd (omega arith)
+
+      module _ {r : Run} (t : Taken r) (few : r .end ≤ 16) where
+        pub place-left : n < 8
+        place-left = omega (arith, w .room, t .ends)
+
+        pub end-within : r .end ≤ length s
+        end-within = omega (arith, t .ends, w .long, ap length front-is, length-append field (front (drop end s)), front-within s)
+
+        -- no hyphen: the label ends here
+        pub ends : eqb (getD s (r .end) 0) 45 ≡ false → IsScanned s (set values n (r .value)) (record { count = n + 1; end = r .end })
+        ends h =
+            let none : front (drop end s) ≡ [] = no-more (drop end s) stops (rw (getD-drop end s 0 0, add-zero end, ← t .ends) h) in
+            let here : front (drop i s) ≡ field = front-is ∙ rw none (append-nil field) in
+            let all : length (front s) ≡ r .end = omega (arith, w .long, ap length here, t .ends) in
+            let good : formed (front s) ≡ true = sym (w .form) ∙ rw here (formed-last field of-digits (t .good)) in
+            let some = some-formed s (omega (arith, all, t .ends)) (omega (arith, all, few)) good in
+            let e : w .done ++ (r .value ∷ []) ≡ numbersOf (front s) = rw (here, split-last 45 field (digits-free field of-digits), ← t .is) at (w .numbers) ∙ some in
+            let l : length (w .done ++ (r .value ∷ [])) ≡ n + 1 = omega (arith, length-append (w .done) (r .value ∷ []), w .count) in
+            let f : set values n (r .value) ≡ (w .done ++ (r .value ∷ [])) ++ replicate (8 - (n + 1)) 0 = held-on (w .done) n (r .value) place-left (w .count) (w .held) in
+            record {
+              held = record {
+                counted = sym l ∙ ap length e;
+                within = rw f (omega (arith, l, length-append (w .done ++ (r .value ∷ [])) (replicate (8 - (n + 1)) 0)));
+                front = rw f (take-at (w .done ++ (r .value ∷ [])) (replicate (8 - (n + 1)) 0) (n + 1) l) ∙ e;
+              };
+              within = end-within;
+              ends = λ z. sym all;
+            }
+
+        -- a hyphen: the next field begins behind it
+        pub hyphen : eqb (getD s (r .end) 0) 45 ≡ true → Scan s (set values n (r .value)) (n + 1) (r .end + 1)
+        hyphen h =
+            let there : r .end < length s = byte-there s (r .end) (eqb-true (getD s (r .end) 0) 45 h) in
+            let next : front (drop end s) ≡ 45 ∷ front (drop (r .end + 1) s) = rw (← t .ends, drop-cons s (r .end) 0 there, eqb-true (getD s (r .end) 0) 45 h, add-one (r .end)) (hyphen-more (drop (suc (r .end)) s)) in
+            let here : front (drop i s) ≡ field ++ (45 ∷ front (drop (r .end + 1) s)) = rw next at front-is in
+            let rest = front (drop (r .end + 1) s) in
+            record {
+              short = w .short;
+              within = omega arith;
+              room = omega (arith, w .room, t .ends);
+              done = w .done ++ (r .value ∷ []);
+              count = omega (arith, length-append (w .done) (r .value ∷ []), w .count);
+              held = held-on (w .done) n (r .value) place-left (w .count) (w .held);
+              long = omega (arith, w .long, ap length here, length-append field (45 ∷ rest), t .ends);
+              form = sym (formed-more field of-digits (t .good) rest) ∙ rw here at (w .form);
+              numbers = append-snoc (w .done) (r .value) (map value (split 45 rest)) ∙ rw (here, split-piece 45 field rest (digits-free field of-digits), ← t .is) at (w .numbers);
+            }

@@ -1,73 +1,68 @@
 -- An index of the scale makes a sheet, and a field out of range a refusal, where that field begins. Assumes nothing.
-use mathlib.Core.Path.{_≡_, sym, ap, _∙_}
-use Prim.Native.Nat.{ℕ, _+_, _<_}
+use mathlib.Core.Path.{sym, ap, _∙_}
+use Prim.Native.Nat.{ℕ, _+_}
 use native.Mathlib.Omega.{arith}
 use borrow.Author.Needs.{needs}
-use lib.ListN.{length, drop}
-use Rattle.refusal.specs.Paper.{answer, refused}
-use Rattle.division.specs.Table.{made}
-use Rattle.reading.specs.declared.labels.Reckoned.{Reckoned}
-use Rattle.label.specs.Text.{split}
-use Rattle.label.specs.Label.{startOf, numbersIn, sheetNamed}
-use Rattle.reading.specs.Given.{reckon}
-use Rattle.reading.proofs.ReckonLaws.{reckoned, sheet-reckoned, sheet-few, out-few}
+use Rattle.refusal.specs.Paper.{answer}
+use Rattle.reading.proofs.ReckonLaws.{reckon-reach, few-sheet, out-few, sheet-named, sheet-out}
 use Rattle.reading.proofs.labels.sheet_from.Statement.{statement}
 use Rattle.reading.proofs.labels.sheet_from.Tie as tie
 
-index-from-requires : tie.Need-index-from-requires
-index-from-requires c κs = search needs
+ground-from-requires : tie.Need-ground-from-requires
+ground-from-requires c κs = search needs
 
-abbrev start : tie.After-index-from → tie.Start
+abbrev start : tie.After-ground-from → tie.Start
 start c = c .before .before .before
-
--- what is reckoned of the fields is reckoned of the label
-told : (c : tie.After-index-from) → c .index-from .result ≡ reckon (made (start c .args .s)) (drop 1 (numbersIn (start c .args .bytes .now)))
-told c = c .index-from .ensures ∙ ap (reckon (made (start c .args .s))) (start c .pre .1)
 
 enum-known-i : tie.Need-enum-known-i
 enum-known-i c = search needs
 
--- the field is one of those there are
-there : (c : tie.After-i) → c .i .given .0 .0 < length (start (c .before .before) .args .fields .now)
-there c = let x = c .before .before in out-few (start x .pre .0) (sym (x .index-from .ensures) ∙ c .i .given .1)
-
 add-field-start : tie.Need-add-field-start
-add-field-start c = omega (arith, there (c .before))
+add-field-start c =
+    let d = c .before in
+    let g = d .before .before in
+    omega (arith, out-few (start g .pre .0) (sym (g .ground-from .ensures) ∙ d .i .given .1))
 
 field-start-requires : tie.Need-field-start-requires
 field-start-requires c κs = search needs
 
-enum-known-i-2 : tie.Need-enum-known-i-2
-enum-known-i-2 c = search needs
+enum-known-at : tie.Need-enum-known-at
+enum-known-at c = search needs
 
 first-requires : tie.Need-first-requires
 first-requires c κs = search needs
 
 add-t13 : tie.Need-add-t13
 add-t13 c =
-    let d = c .before .before in
-    let x = d .before .before in
-    rw (c .first .ensures) (omega (arith, sheet-few (start x .pre .0) (sym (x .index-from .ensures) ∙ d .i2 .given .1)))
-
--- what is answered of what is reckoned
-answered : (c : tie.After-index-from) {r : Reckoned} → c .index-from .result ≡ r → reckoned (start c .args .s) (start c .args .bytes .now) r ≡ sheetNamed (start c .args .s) (start c .args .bytes .now)
-answered c e = let a = start c .args in sym (sheet-reckoned (a .s) (a .bytes .now) ∙ ap (reckoned (a .s) (a .bytes .now)) (sym (told c) ∙ e))
+    let d = c .before .before .before in
+    let g = d .before .before in
+    rw (c .before .first .ensures) (record { fits = omega (arith, few-sheet (reckon-reach (start g .pre .0) (sym (g .ground-from .ensures) ∙ d .at .given .1))) })
 
 returns : tie.Need-returns
 returns c =
     let d = c .before .before in
-    let x = d .before .before in
-    let i = d .i .given .0 .0 in
-    let q : i + 1 ≡ 1 + i = omega arith in
-    ap (refused 5) (c .field-start .ensures ∙ ap (λ (k : ℕ). startOf k (split 45 (start x .args .bytes .now))) q) ∙ answered x (d .i .given .1)
+    let g = d .before .before in
+    let s = start g in
+    sheet-out (s .args .s) (s .args .bytes .now) (s .pre .1) (sym (g .ground-from .ensures) ∙ d .i .given .1) (c .field-start .ensures)
 
 returns-2 : tie.Need-returns-2
 returns-2 c =
-    let d = c .before .before in
-    let x = d .before .before in
-    ap (λ (n : ℕ). answer (n + d .i2 .given .0 .0)) (c .first .ensures) ∙ answered x (d .i2 .given .1)
+    let f = c .before in
+    let d = f .before .before in
+    let g = d .before .before in
+    let s = start g in
+    ap (λ (n : ℕ). answer (n + d .at .given .0 .0 .index)) (f .first .ensures) ∙ sheet-named (s .args .s) (s .args .bytes .now) (s .pre .1) (sym (g .ground-from .ensures) ∙ d .at .given .1)
 
 pub sheet-from-spec : {M : Type 1} → statement M
 sheet-from-spec =
     tie.close
-    (tie.spec index-from-requires enum-known-i add-field-start field-start-requires enum-known-i-2 first-requires add-t13 returns returns-2)
+    (tie.spec
+    ground-from-requires
+    enum-known-i
+    add-field-start
+    field-start-requires
+    enum-known-at
+    first-requires
+    add-t13
+    returns
+    returns-2)
