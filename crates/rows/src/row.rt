@@ -18,7 +18,7 @@ ghost use Rattle.label.specs.Text.{decimal};
 ghost use Rattle.label.specs.Given.{Small};
 ghost use Rattle.catalogue.specs.Line.{readLine};
 ghost use Rattle.rows.specs.Row.{metres, frameWords, words, layRow};
-ghost use Rattle.rows.specs.Given.{spaced, pair, Short, AllShort};
+ghost use Rattle.rows.specs.Given.{spaced, pair, bytesIn, Hundreds, InHundreds};
 
 // Each of the functions that put something into room gives the place behind it.
 fn put_byte(b: u8, out: &mut [u8], at: usize) -> usize
@@ -29,7 +29,7 @@ fn put_byte(b: u8, out: &mut [u8], at: usize) -> usize
     at + 1
 }
 
-// Two digits, and four.
+// Two digits.
 fn put_pair(v: u64, out: &mut [u8], at: usize) -> usize
     requires { ⌜ Small 100 v 2 at (length (now out)) ⌝ }
     ensures { λ r. ⌜ Wrote (now (out .entry)) at (now (out .exit)) r (pair v) ⌝ }
@@ -41,12 +41,30 @@ fn put_pair(v: u64, out: &mut [u8], at: usize) -> usize
     at + 2
 }
 
+// The four digits of a number as the four bytes of one number, the first digit lowest. x has its hundreds and what is left of it, two bytes
+// apart, and t the tens of both. 808_464_432 is 48 in each byte, x * 256 - t * 2_560 has the ones of both a byte up, and t the tens below.
+fn four(n: u32) -> u32
+    requires { ⌜ n < 10_000 ⌝ }
+    ensures { λ r. ⌜ bytesIn r ≡ pair (n / 100) ++ pair (n % 100) ⌝ }
+{
+    let hi = n / 100;
+    let lo = n % 100;
+    let x = hi + lo * 65_536;
+    let t = hi / 10 + lo / 10 * 65_536;
+    808_464_432 + x * 256 - t * 2_559
+}
+
+// Four digits, of which the compiler makes one store.
 fn put_four(v: u64, out: &mut [u8], at: usize) -> usize
     requires { ⌜ Small 10_000 v 4 at (length (now out)) ⌝ }
     ensures { λ r. ⌜ Wrote (now (out .entry)) at (now (out .exit)) r (pair (v / 100) ++ pair (v % 100)) ⌝ }
 {
-    let a = put_pair(v / 100, out, at);
-    put_pair(v % 100, out, a)
+    let w = four(v as u32);
+    out[at] = (w % 256) as u8;
+    out[at + 1] = (w / 256 % 256) as u8;
+    out[at + 2] = (w / 65_536 % 256) as u8;
+    out[at + 3] = (w / 16_777_216) as u8;
+    at + 4
 }
 
 // A number of at most two digits, of at most four, and of at most eight.
@@ -84,6 +102,18 @@ fn put_long(v: u64, out: &mut [u8], at: usize) -> usize
 }
 
 // A number in decimal: what stands before its last four digits, and these behind it.
+fn put_huge(n: u64, out: &mut [u8], at: usize) -> usize
+    requires { ⌜ at + length (decimal n) ≤ length (now out) ⌝ }
+    ensures { λ r. ⌜ Wrote (now (out .entry)) at (now (out .exit)) r (decimal n) ⌝ }
+{
+    if n < 100_000_000 {
+        return put_long(n, out, at);
+    }
+    let a = put_huge(n / 10_000, out, at);
+    put_four(n % 10_000, out, a)
+}
+
+// The same: a number of at most eight digits, as most are, is put with no call of a function that calls itself.
 fn put_number(n: u64, out: &mut [u8], at: usize) -> usize
     requires { ⌜ at + length (decimal n) ≤ length (now out) ⌝ }
     ensures { λ r. ⌜ Wrote (now (out .entry)) at (now (out .exit)) r (decimal n) ⌝ }
@@ -91,8 +121,7 @@ fn put_number(n: u64, out: &mut [u8], at: usize) -> usize
     if n < 100_000_000 {
         return put_long(n, out, at);
     }
-    let a = put_number(n / 10_000, out, at);
-    put_four(n % 10_000, out, a)
+    put_huge(n, out, at)
 }
 
 // A number behind a space.
@@ -104,28 +133,66 @@ fn put_spaced(n: u64, out: &mut [u8], at: usize) -> usize
     put_number(n, out, a)
 }
 
-// An edge in whole metres, behind a space.
-fn put_metres(x: i64, out: &mut [u8], at: usize) -> usize
-    requires { ⌜ Short x ⌝ }
+// So many hundred metres, in metres: four digits, and two zeros.
+fn put_hundreds(h: u64, out: &mut [u8], at: usize) -> usize
+    requires { ⌜ Small 10_000 h 6 at (length (now out)) ⌝ }
+    ensures { λ r. ⌜ Wrote (now (out .entry)) at (now (out .exit)) r ((pair (h / 100) ++ pair (h % 100)) ++ pair 0) ⌝ }
+{
+    let a = put_four(h, out, at);
+    out[a] = b'0';
+    out[a + 1] = b'0';
+    a + 2
+}
+
+// An edge in whole metres, behind a space: six digits from the west to the east, and seven from the south to the north.
+fn put_six(x: i64, out: &mut [u8], at: usize) -> usize
+    requires { ⌜ Hundreds 2_000 8_000 x ⌝ }
+    requires { ⌜ at + 7 ≤ length (now out) ⌝ }
+    ensures { λ r. ⌜ Wrote (now (out .entry)) at (now (out .exit)) r (32 ∷ metres x) ⌝ }
+    ensures { λ r. ⌜ r ≡ at + 7 ⌝ }
+{
+    let h = x as u64 / 100_000;
+    let a = put_byte(b' ', out, at);
+    put_hundreds(h, out, a)
+}
+
+fn put_seven(x: i64, out: &mut [u8], at: usize) -> usize
+    requires { ⌜ Hundreds 45_700 51_700 x ⌝ }
     requires { ⌜ at + 8 ≤ length (now out) ⌝ }
     ensures { λ r. ⌜ Wrote (now (out .entry)) at (now (out .exit)) r (32 ∷ metres x) ⌝ }
-    ensures { λ r. ⌜ r ≤ at + 8 ⌝ }
+    ensures { λ r. ⌜ r ≡ at + 8 ⌝ }
 {
-    let mm = x as u64;
-    put_spaced(mm / 1_000, out, at)
+    let h = x as u64 / 100_000;
+    let a = put_byte(b' ', out, at);
+    let first = 48 + (h / 10_000) as u8;
+    let b = put_byte(first, out, a);
+    put_hundreds(h % 10_000, out, b)
 }
 
 // West, east, south and north, each behind a space.
 fn put_edges(e: Edges, out: &mut [u8], at: usize) -> usize
-    requires { ⌜ AllShort e ⌝ }
-    requires { ⌜ at + 32 ≤ length (now out) ⌝ }
+    requires { ⌜ InHundreds e ⌝ }
+    requires { ⌜ at + 30 ≤ length (now out) ⌝ }
     ensures { λ r. ⌜ Wrote (now (out .entry)) at (now (out .exit)) r (spaced (frameWords e)) ⌝ }
-    ensures { λ r. ⌜ r ≤ at + 32 ⌝ }
+    ensures { λ r. ⌜ r ≡ at + 30 ⌝ }
 {
-    let a = put_metres(e.west, out, at);
-    let b = put_metres(e.east, out, a);
-    let c = put_metres(e.south, out, b);
-    put_metres(e.north, out, c)
+    let a = put_six(e.west, out, at);
+    let b = put_six(e.east, out, a);
+    let c = put_seven(e.south, out, b);
+    put_seven(e.north, out, c)
+}
+
+// A sheet and its edges, each behind a space.
+fn put_ground(sheet: u32, e: Edges, out: &mut [u8], at: usize) -> usize
+    requires { ⌜ sheet < 10_000_000 ⌝ }
+    requires { ⌜ InHundreds e ⌝ }
+    requires { ⌜ at + 38 ≤ length (now out) ⌝ }
+    ensures { λ r. ⌜ Wrote (now (out .entry)) at (now (out .exit)) r (spaced (decimal sheet ∷ frameWords e)) ⌝ }
+    ensures { λ r. ⌜ r ≤ at + 38 ⌝ }
+{
+    let a = put_byte(b' ', out, at);
+    let b = put_long(sheet as u64, out, a);
+    put_edges(e, out, b)
 }
 
 // The word, the number, and the value where the refusal carries one, also where that is 0.
@@ -153,11 +220,10 @@ fn put_answer(line: &[u8], out: &mut [u8], at: usize) -> usize
     match found {
         Found::Refused(why) => put_refusal(why, out, at),
         Found::Sheet(n) => {
-            let a = put_spaced(n as u64, out, at);
             let corners = corners_of(n);
             match corners {
-                Corners::Framed(e) => put_edges(e, out, a),
-                Corners::Refused(_) => a,
+                Corners::Framed(e) => put_ground(n, e, out, at),
+                Corners::Refused(_) => at,
             }
         }
     }
