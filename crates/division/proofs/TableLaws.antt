@@ -76,6 +76,11 @@ none-of-nine s h = by (isScale s) refl
     by true e = absurd (each (λ k. s ≡ k → ⊥) 9 h s (scale s e .one) (scale s e .nine) refl)
     by false e = refl
 
+-- and a scale that is none of the first eight is the ninth
+pub none-of-eight : {s : ℕ} → IsScale s → Each (λ k. s ≡ k → ⊥) 8 → s ≡ 9
+none-of-eight {s} i h =
+    ⊎-elim (λ e. e) (λ l. absurd (each (λ k. s ≡ k → ⊥) 8 h s (i .one) (le-of-suc-le-suc l) refl)) (eq-or-lt-of-le (i .nine))
+
 -- of no scale the row is zeros
 pub no-row : (s : ℕ) → isScale s ≡ false → tableRow s ≡ tableRow 0
 unfolding tableRow table

@@ -1,9 +1,9 @@
 -- A label is put together by its digits, its fields and its parents' fields. Assumes nothing.
-use mathlib.Core.Path.{_≡_, refl, ap, _∙_, subst}
+use mathlib.Core.Path.{_≡_, refl, sym, ap, _∙_, subst}
 use mathlib.Core.Bool.{true}
 use mathlib.Core.List.{List, [], _∷_, _++_, flatMap, append-nil}
 use mathlib.Core.Logic.{⊎-elim}
-use Prim.Native.Nat.{ℕ, _+_, _/_, _%_, _≤_, _<_}
+use Prim.Native.Nat.{ℕ, _+_, _-_, _/_, _%_, _≤_, _<_}
 use native.Mathlib.Nat.{mul-pos, mod-lt, add-zero}
 use native.Mathlib.Omega.{arith}
 use borrow.Author.Tests.{le-leb, lt-leb}
@@ -13,7 +13,7 @@ use mir.Val.{boolByte}
 use Rattle.refusal.specs.Given.{Wrote}
 use Rattle.division.specs.declared.table.Row.{Row}
 use Rattle.division.specs.Words.{_≤?_}
-use Rattle.division.specs.Table.{Made, made, rows, columns, parentScale, side, parts, codeRow}
+use Rattle.division.specs.Table.{Made, made, rows, columns, parentScale, side, parts, first, codeRow}
 use Rattle.division.specs.Sheet.{placeAt, isSheet, scaleOf, indexOf}
 use Rattle.division.proofs.TestLaws.{le-or-less}
 use Rattle.division.proofs.MadeLaws.{Sound, quot, left-few}
@@ -23,7 +23,7 @@ use Rattle.division.proofs.FamilyLaws.{top, deep, some-columns, parted, above, 
 use Rattle.label.specs.Text.{decimal}
 use Rattle.label.specs.Label.{markOf, fieldsOf, labelOf}
 use Rattle.label.specs.Given.{Small, behind, indexFields}
-use Rattle.labelling.specs.Given.{areaFields, AreaRoom, Room}
+use Rattle.labelling.specs.Given.{areaFields, AreaRoom, Room, SheetRoom}
 use Rattle.label.proofs.FieldLaws.{fields-area, fields-part}
 use Rattle.label.proofs.SizeLaws.{decimal-1, decimal-2, decimal-3, size}
 use Rattle.label.proofs.LengthLaws.{Short, behind-more, more-long, sizes, label-is, label-long, label-high}
@@ -157,6 +157,15 @@ module _ {s i : ℕ} {d : List ℕ} {at : ℕ} {row : Row} {index : ℕ} {f : Li
           rest = rw (g .is-row) (λ x. g .rest (deep-wrote (g .room) here-deep q x));
         }
 
+-- ---- the fields of a sheet of a scale: the arm that is taken is the scale's own
+
+module _ {s t : ℕ} (e : s ≡ t) (n : ℕ) where
+  pub arm-room : {at room : ℕ} → SheetRoom s n at room → SheetRoom t n at room
+  arm-room {at} {room} x = subst (λ (u : ℕ). SheetRoom u n at room) e x
+
+  pub arm-wrote : {d f : List ℕ} {at r : ℕ} → Wrote d at f r (behind (indexFields t (n - first t))) → Wrote d at f r (behind (indexFields s (n - first s)))
+  arm-wrote {d} {f} {at} {r} w = subst (λ (u : ℕ). Wrote d at f r (behind (indexFields u (n - first u)))) (sym e) w
+
 -- ---- the label of a sheet: the first number into 16 bytes, and the fields behind it
 
 module _ (n : ℕ) (h : isSheet n ≡ true) where
@@ -164,8 +173,12 @@ module _ (n : ℕ) (h : isSheet n ≡ true) where
   mark-room = record { few = sizes (ranged n h .scale) .mark-few; fits = omega (arith, label-long n h, label-high n h) }
 
   module _ {e : List ℕ} {a : ℕ} (p : Wrote (replicate 16 0) 0 e a (decimal (markOf (scaleOf n)))) where
-    pub fields-room : Room (scaleOf n) (indexOf n) a (length e)
-    fields-room = record { indexed = indexed n h; fits = omega (arith, p .end, same-long p, label-long n h, label-high n h) }
+    pub fields-room : SheetRoom (scaleOf n) n a (length e)
+    fields-room =
+        record {
+          from = ranged n h .low;
+          fields = record { indexed = indexed n h; fits = omega (arith, p .end, same-long p, label-long n h, label-high n h) };
+        }
 
     pub label-wrote : {f : List ℕ} {r : ℕ} → Wrote e a f r (behind (indexFields (scaleOf n) (indexOf n))) → Wrote (replicate 16 0) 0 f r (labelOf n)
     label-wrote q = rw (label-is n) (then p q)

@@ -1,7 +1,8 @@
 -- What the inner functions take for granted: the public ones test it first.
-use Prim.Native.Nat.{ℕ, _+_, _/_, _%_, _≤_, _<_}
+use Prim.Native.Nat.{ℕ, _+_, _-_, _/_, _%_, _≤_, _<_}
 use mathlib.Core.List.{List, [], _∷_}
 use lib.ListN.{length}
+use Rattle.division.specs.Table.{first}
 use Rattle.division.specs.Given.{Indexed}
 use Rattle.label.specs.Given.{behind, indexFields}
 
@@ -19,3 +20,8 @@ pub record AreaRoom (c i at room : ℕ) : Type 0 where
 pub record Room (s i at room : ℕ) : Type 0 where
   pub indexed : Indexed s i
   pub fits : at + length (behind (indexFields s i)) ≤ room
+
+-- a sheet of a scale, and room for its fields
+pub record SheetRoom (s n at room : ℕ) : Type 0 where
+  pub from : first s ≤ n
+  pub fields : Room s (n - first s) at room

@@ -7,16 +7,17 @@ use refusal::lay;
 ghost use mathlib.Core.Path.{_≡_};
 ghost use mathlib.Core.Bool.{true};
 ghost use mathlib.Core.List.{[], _∷_};
-ghost use Prim.Native.Nat.{_+_, _<_};
+ghost use Prim.Native.Nat.{_+_, _-_, _<_};
 ghost use lib.ListN.{length, replicate};
 ghost use Rattle.refusal.specs.Paper.{counted, roomAfter};
 ghost use Rattle.refusal.specs.Numbers.{laidPaper};
 ghost use Rattle.refusal.specs.Given.{Wrote};
+ghost use Rattle.division.specs.Table.{first};
 ghost use Rattle.division.specs.Sheet.{isSheet};
 ghost use Rattle.label.specs.Text.{decimal};
 ghost use Rattle.label.specs.Label.{markOf, labelOf, writeLabel, labelLength};
 ghost use Rattle.label.specs.Given.{Small, behind, indexFields};
-ghost use Rattle.labelling.specs.Given.{areaFields, AreaRoom, Room};
+ghost use Rattle.labelling.specs.Given.{areaFields, AreaRoom, Room, SheetRoom};
 
 // A label: the longest has 16 bytes.
 pub struct Text {
@@ -86,6 +87,33 @@ fn put_fields(s: u32, i: u32, out: &mut [u8], at: usize) -> usize
     put_area(t.columns, index, out, a)
 }
 
+// The same of a sheet of the scale, by its number.
+fn put_sheet(s: u32, sheet: u32, out: &mut [u8], at: usize) -> usize
+    requires { ⌜ SheetRoom s sheet at (length (now out)) ⌝ }
+    ensures { λ r. ⌜ Wrote (now (out .entry)) at (now (out .exit)) r (behind (indexFields s (sheet - first s))) ⌝ }
+{
+    let first = Scale(s).first();
+    put_fields(s, sheet - first, out, at)
+}
+
+// Each scale has an arm of its own, so that a compiled program divides by numbers that it knows.
+fn put_by_scale(s: u32, sheet: u32, out: &mut [u8], at: usize) -> usize
+    requires { ⌜ SheetRoom s sheet at (length (now out)) ⌝ }
+    ensures { λ r. ⌜ Wrote (now (out .entry)) at (now (out .exit)) r (behind (indexFields s (sheet - first s))) ⌝ }
+{
+    match s {
+        1 => put_sheet(1, sheet, out, at),
+        2 => put_sheet(2, sheet, out, at),
+        3 => put_sheet(3, sheet, out, at),
+        4 => put_sheet(4, sheet, out, at),
+        5 => put_sheet(5, sheet, out, at),
+        6 => put_sheet(6, sheet, out, at),
+        7 => put_sheet(7, sheet, out, at),
+        8 => put_sheet(8, sheet, out, at),
+        _ => put_sheet(9, sheet, out, at),
+    }
+}
+
 // The first number of a scale's labels; of no scale 0.
 fn mark_of(s: u32) -> u32
     ensures { λ r. ⌜ r ≡ markOf s ⌝ }
@@ -110,10 +138,9 @@ fn text_of(sheet: u32) -> Text
     ensures { λ r. ⌜ Wrote (replicate 16 0) 0 (r .bytes) (r .len) (labelOf sheet) ⌝ }
 {
     let s = Scale::of(sheet).0;
-    let first = Scale(s).first();
     let mut bytes = [0u8; 16];
     let a = put_number(mark_of(s), &mut bytes, 0);
-    let len = put_fields(s, sheet - first, &mut bytes, a);
+    let len = put_by_scale(s, sheet, &mut bytes, a);
     Text {
         bytes: bytes,
         len: len,

@@ -1,15 +1,11 @@
 -- A sheet has a scale and an index there, and its label has room. Assumes nothing.
 use borrow.Author.Needs.{needs}
-use Rattle.division.proofs.NumberLaws.{ranged}
 use Rattle.labelling.proofs.WritingLaws.{mark-room, fields-room, label-wrote}
 use Rattle.labelling.proofs.writing.text_of.Statement.{statement}
 use Rattle.labelling.proofs.writing.text_of.Tie as tie
 
 of-requires : tie.Need-of-requires
 of-requires c κs = search needs
-
-first-requires : tie.Need-first-requires
-first-requires c κs = search needs
 
 mark-of-requires : tie.Need-mark-of-requires
 mark-of-requires c κs = search needs
@@ -20,45 +16,36 @@ slice-aggregate-put-number c = search needs
 put-number-requires : tie.Need-put-number-requires
 put-number-requires c κs =
     let m = c .before in
-    let a = m .before .before .before in
-    rw (m .mark-of .ensures, m .before .before .of .ensures) (mark-room (a .args .sheet) (a .pre))
+    let a = m .before .before in
+    rw (m .mark-of .ensures, m .before .of .ensures) (mark-room (a .args .sheet) (a .pre))
 
-sub-put-fields : tie.Need-sub-put-fields
-sub-put-fields c =
-    let m = c .before .before .before in
-    let a = m .before .before .before in
-    rw (m .before .first .ensures, m .before .before .of .ensures) (ranged (a .args .sheet) (a .pre) .low)
+slice-aggregate-put-by-scale : tie.Need-slice-aggregate-put-by-scale
+slice-aggregate-put-by-scale c = search needs
 
-slice-aggregate-put-fields : tie.Need-slice-aggregate-put-fields
-slice-aggregate-put-fields c = search needs
-
-put-fields-requires : tie.Need-put-fields-requires
-put-fields-requires c κs =
+put-by-scale-requires : tie.Need-put-by-scale-requires
+put-by-scale-requires c κs =
     let n = c .before .before in
     let m = n .before .before in
-    let a = m .before .before .before in
-    let f = m .before .before .of .ensures in
-    rw (m .before .first .ensures, f) (fields-room (a .args .sheet) (a .pre) (rw (m .mark-of .ensures, f) at (n .put-number .ensures)))
+    let a = m .before .before in
+    let f = m .before .of .ensures in
+    rw f (fields-room (a .args .sheet) (a .pre) (rw (m .mark-of .ensures, f) at (n .put-number .ensures)))
 
 returns : tie.Need-returns
 returns c =
     let n = c .before .before .before .before in
     let m = n .before .before in
-    let a = m .before .before .before in
-    let f = m .before .before .of .ensures in
-    label-wrote (a .args .sheet) (a .pre) (rw (m .mark-of .ensures, f) at (n .put-number .ensures))
-    (rw (m .before .first .ensures, f) at (c .before .put-fields .ensures))
+    let a = m .before .before in
+    let f = m .before .of .ensures in
+    label-wrote (a .args .sheet) (a .pre) (rw (m .mark-of .ensures, f) at (n .put-number .ensures)) (rw f at (c .before .put-by-scale .ensures))
 
 pub text-of-spec : {M : Type 1} → statement M
 text-of-spec =
     tie.close
     (tie.spec
     of-requires
-    first-requires
     mark-of-requires
     slice-aggregate-put-number
     put-number-requires
-    sub-put-fields
-    slice-aggregate-put-fields
-    put-fields-requires
+    slice-aggregate-put-by-scale
+    put-by-scale-requires
     returns)
