@@ -1,9 +1,12 @@
--- The piece goes on from the place that the loop has come to, and it ends there at a mark or at the end. The measure is what is left. Assumes nothing.
+-- The piece goes on from the place that the loop has come to: it ends in the block there, or the block is passed. The measure is what is left. Assumes nothing.
 use mathlib.Core.Path.{_≡_}
-use Prim.Native.Nat.{_+_, _-_, _≤_}
+use mathlib.Core.List.{List}
+use Prim.Native.Nat.{ℕ, _+_, _-_, _≤_}
 use native.Mathlib.Omega.{arith}
-use lib.ListN.{length, drop}
-use Rattle.label.proofs.PieceLaws.{piece, at-mark, past-byte, at-end}
+use borrow.Author.Needs.{needs}
+use lib.ListN.{length, take, drop, length-drop}
+use lib.Seq.{length-take-le}
+use Rattle.label.proofs.PieceLaws.{piece, in-block, past-block}
 use Rattle.fault.proofs.piece.piece_end.Statement.{statement}
 use Rattle.fault.proofs.piece.piece_end.Tie as tie
 
@@ -16,8 +19,50 @@ abbrev μ-loop : tie.MeasureT-loop
 loop-holds : tie.Need-loop-holds Inv-loop μ-loop
 loop-holds c = omega arith
 
-shared-slice-read-if1 : tie.Need-shared-slice-read-if1 Inv-loop μ-loop
-shared-slice-read-if1 c = omega arith
+sub-loop : tie.Need-sub-loop Inv-loop μ-loop
+sub-loop c = omega arith
+
+add-e : tie.Need-add-e Inv-loop μ-loop
+add-e c = omega arith
+
+sub-block-end : tie.Need-sub-block-end Inv-loop μ-loop
+sub-block-end c = omega arith
+
+part-block-end-start : tie.Need-part-block-end-start Inv-loop μ-loop
+part-block-end-start c = omega arith
+
+part-block-end-end : tie.Need-part-block-end-end Inv-loop μ-loop
+part-block-end-end c = omega arith
+
+abbrev bytes : tie.At-loop Inv-loop μ-loop → List ℕ
+bytes c = c .before .before .args .bytes .now
+
+abbrev rest : tie.At-loop Inv-loop μ-loop → List ℕ
+rest c = drop (c .loop .i) (bytes c)
+
+-- the part from i to i + 64
+size : (i : ℕ) → i + 64 - i ≡ 64
+size i = omega arith
+
+block-end-requires : tie.Need-block-end-requires Inv-loop μ-loop
+block-end-requires c κs =
+    let l = c .before .before in
+    rw (size (l .loop .i)) (length-take-le 64 (rest l) (omega (arith, length-drop (l .loop .i) (bytes l))))
+
+ended : (c : tie.After-block-end Inv-loop μ-loop)
+    → c .block-end .result ≡ length (piece (c .before .before .before .before .before .args .mark) (take 64 (rest (c .before .before .before))))
+ended c = rw (size (c .before .before .before .loop .i)) at (c .block-end .ensures)
+
+cast-result : tie.Need-cast-result Inv-loop μ-loop
+cast-result c = search needs
+
+add-result : tie.Need-add-result Inv-loop μ-loop
+add-result c = omega arith
+
+returns : tie.Need-returns Inv-loop μ-loop
+returns c =
+    let l = c .before .before .before .before in
+    omega (arith, ended (c .before), in-block (l .before .before .args .mark) (bytes l) (l .loop .i) 64 (omega (arith, ended (c .before))))
 
 add-i : tie.Need-add-i Inv-loop μ-loop
 add-i c = omega arith
@@ -27,16 +72,14 @@ loop-less c = omega arith
 
 loop-again : tie.Need-loop-again Inv-loop μ-loop
 loop-again c =
-    let l = c .before .before .before in
-    (omega arith, omega (arith, past-byte (l .before .args .mark) (l .before .args .bytes .now) (l .loop .i) (omega arith) (c .if1 .left)))
+    let l = c .before .before .before .before in
+    (omega arith, omega (arith, past-block (l .before .before .args .mark) (bytes l) (l .loop .i) 64 (omega (arith, ended (c .before)))))
 
-returns : tie.Need-returns Inv-loop μ-loop
-returns c = omega (arith, at-end (c .before .before .args .mark) (c .before .before .args .bytes .now) (c .before .loop .i) (omega arith))
+rest-end-requires : tie.Need-rest-end-requires Inv-loop μ-loop
+rest-end-requires c κs = search needs
 
 returns-2 : tie.Need-returns-2 Inv-loop μ-loop
-returns-2 c =
-    let l = c .before .before .before in
-    omega (arith, at-mark (l .before .args .mark) (l .before .args .bytes .now) (l .loop .i) (omega arith) (c .if1 .taken))
+returns-2 c = omega (arith, c .rest-end .ensures)
 
 pub piece-end-spec : {M : Type 1} → statement M
 piece-end-spec =
@@ -45,9 +88,17 @@ piece-end-spec =
     Inv-loop
     μ-loop
     loop-holds
-    shared-slice-read-if1
+    sub-loop
+    add-e
+    sub-block-end
+    part-block-end-start
+    part-block-end-end
+    block-end-requires
+    cast-result
+    add-result
+    returns
     add-i
     loop-less
     loop-again
-    returns
+    rest-end-requires
     returns-2)
