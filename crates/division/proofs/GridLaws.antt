@@ -5,7 +5,7 @@ use Prim.Native.Nat.{ℕ, zero, suc, _-_, _*_, _/_, _≤_, _<_}
 use native.Mathlib.Nat.{mul-le-mul-right, mul-comm, mul-assoc, zero-mul}
 use native.Mathlib.Omega.{arith}
 use borrow.Author.Tests.{leb-true, ltb-true}
-use lib.IntN.{ℤ, pos}
+use lib.IntN.{ℤ, pos, natAbs, _-ℤ_}
 use Rattle.division.specs.Words.{_≤ᶻ_, _<ᶻ_}
 use Rattle.division.specs.Table.{width, height, rows, columns}
 use Rattle.division.specs.Grid.{millimetres, area, columnAt, rowAt, northOf}
@@ -78,6 +78,13 @@ pub north : (y : ℤ) → (area .south <ᶻ y) ≡ true → (y ≤ᶻ area .nort
 north y a b =
     let p = after-pos y a in
     record { n = p .0 .n; is = p .0 .is; from = p .1; to = leb-true (p .0 .n) 5_170_000_000 (rw (p .0 .is) at b) }
+
+-- how far they lie from the upper left corner
+pub east-few : {e : ℤ} → East e → natAbs (e -ℤ area .west) < 600_000_000
+east-few x = rw (x .is, pos-minus (x .n) 200_000_000 (x .from)) (omega (arith, x .to))
+
+pub north-few : {y : ℤ} → North y → natAbs (area .north -ℤ y) < 600_000_000
+north-few x = rw (x .is, pos-minus 5_170_000_000 (x .n) (x .to)) (omega (arith, x .from))
 
 -- their column and their row are on the grid
 module _ {s : ℕ} (h : IsScale s) where

@@ -1,12 +1,14 @@
 -- A point of the area lies in one row and one column of each scale. Assumes nothing.
-use mathlib.Core.Path.{_≡_}
+use mathlib.Core.Path.{_≡_, sym, ap, _∙_}
 use mathlib.Core.Bool.{true, _&&_}
 use Prim.Native.Nat.{ℕ}
 use lib.IntN.{ℤ}
+use mir.Syntax.{w64}
+use mir.Val.{SFits, toZ, ofZ}
 use Rattle.division.specs.Words.{_≤ᶻ_, _<ᶻ_}
 use Rattle.division.specs.Grid.{area, owns, columnAt, rowAt}
-use Rattle.division.specs.Given.{IsScale, OnGrid}
-use Rattle.division.proofs.TestLaws.{both}
+use Rattle.division.specs.Given.{IsScale, OnGrid, Inside, sheetUnder}
+use Rattle.division.proofs.TestLaws.{both, back}
 use Rattle.division.proofs.GridLaws.{East, North, east, north, column-in, row-in}
 
 -- the four tests of ownership, one by one
@@ -24,25 +26,28 @@ owned w e s n x y o =
     record { west = c .0; east = c .1; south = d .0; north = d .1 }
 
 -- a scale, and a point of the area
-pub record Inside (s : ℕ) (e n : ℤ) : Type 0 where
-  pub scale : IsScale s
-  pub tests : Owned (area .west) (area .east) (area .south) (area .north) e n
-
 module _ {s : ℕ} {e n : ℤ} (i : Inside s e n) where
+  tests : Owned (area .west) (area .east) (area .south) (area .north) e n
+  tests = owned (area .west) (area .east) (area .south) (area .north) e n (i .point)
+
   pub across : IsScale s × (((area .west ≤ᶻ e) ≡ true) × ((e <ᶻ area .east) ≡ true))
-  across = (i .scale, (i .tests .west, i .tests .east))
+  across = (i .scale, (tests .west, tests .east))
 
   pub down : IsScale s × (((area .south <ᶻ n) ≡ true) × ((n ≤ᶻ area .north) ≡ true))
-  down = (i .scale, (i .tests .south, i .tests .north))
+  down = (i .scale, (tests .south, tests .north))
 
   pub x : East e
-  x = east e (i .tests .west) (i .tests .east)
+  x = east e (tests .west) (tests .east)
 
   pub y : North n
-  y = north n (i .tests .south) (i .tests .north)
+  y = north n (tests .south) (tests .north)
 
   pub point-on : OnGrid s (record { row = rowAt s n; column = columnAt s e })
   point-on = record { scale = i .scale; in-rows = row-in (i .scale) y; in-columns = column-in (i .scale) x }
 
 pub inside : {s : ℕ} → IsScale s → (e n : ℤ) → owns area e n ≡ true → Inside s e n
-inside h e n o = record { scale = h; tests = owned (area .west) (area .east) (area .south) (area .north) e n o }
+inside h e n o = record { scale = h; point = o }
+
+-- the arm that is taken is the scale's own, and a signed argument is passed on as it is
+pub arm-under : {s t k : ℕ} → s ≡ t → {e n : ℤ} → SFits w64 e → SFits w64 n → k ≡ sheetUnder t (toZ w64 (ofZ w64 e)) (toZ w64 (ofZ w64 n)) → k ≡ sheetUnder s e n
+arm-under q {e} {n} f g p = (rw (back f, back g) at p) ∙ ap (λ (u : ℕ). sheetUnder u e n) (sym q)

@@ -13,13 +13,13 @@ use Rattle.division.specs.declared.Place.{Place}
 use Rattle.division.specs.Table.{isScale, width, height}
 use Rattle.division.specs.Grid.{millimetres, area, owns, columnAt, rowAt, westOf, northOf, edgesOf}
 use Rattle.division.specs.Sheet.{isSheet, sheetOf, scaleOf, placeOf, groundOf, sheetAt}
-use Rattle.division.specs.Given.{IsScale, OnGrid}
+use Rattle.division.specs.Given.{IsScale, OnGrid, Inside}
 use Rattle.division.specs.Theorems.{Holds}
 use Rattle.division.proofs.TestLaws.{from-pos, after-pos}
 use Rattle.division.proofs.TableLaws.{scale, is-scale}
 use Rattle.division.proofs.NumberLaws.{on-grid, sheet-place, scale-sheet, place-sheet, is-sheet}
 use Rattle.division.proofs.GridLaws.{some-width, some-height, wide-in, high-in, north-is, column-is, row-is}
-use Rattle.division.proofs.PointLaws.{owned, Inside, inside, x, y, point-on}
+use Rattle.division.proofs.PointLaws.{owned, inside, x, y, point-on}
 use Rattle.division.proofs.MadeLaws.{place}
 
 -- ---- the ground of a place as plain numbers

@@ -43,6 +43,8 @@ pub record Rules (s : ℕ) : Type 0 where
   pub begins : first s ≡ before s
   pub ends : first s + sheets s ≡ before (suc s)
   -- the ranges
+  pub few-width : width s ≤ 150_000
+  pub few-height : height s ≤ 100_000
   pub few-rows : rows s ≤ 3_000
   pub few-columns : columns s ≤ 2_000
   pub some : 0 < sheets s

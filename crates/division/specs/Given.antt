@@ -2,11 +2,13 @@
 use Prim.Native.Nat.{ℕ, _+_, _-_, _*_, _/_, _≤_, _<_}
 use mathlib.Core.Path.{_≡_}
 use mathlib.Core.Bool.{true}
+use lib.IntN.{ℤ}
 use Rattle.division.specs.declared.Edges.{Edges}
 use Rattle.division.specs.declared.Place.{Place}
 use Rattle.division.specs.declared.cover.Span.{Span}
 use Rattle.division.specs.Table.{rows, columns, sheets}
-use Rattle.division.specs.Grid.{area, within}
+use Rattle.division.specs.Grid.{area, owns, within, columnAt, rowAt}
+use Rattle.division.specs.Sheet.{sheetOf}
 use Rattle.division.specs.Cover.{isWindow}
 
 -- a scale
@@ -37,6 +39,14 @@ pub record PartPlace (k : ℕ) (up : Place) (number : ℕ) : Type 0 where
   pub last : number ≤ k * k
   pub rows : (up .row + 1) * k ≤ 3_000
   pub columns : (up .column + 1) * k ≤ 2_000
+
+-- a scale, and a point of the area; and the sheet under it
+pub record Inside (s : ℕ) (e n : ℤ) : Type 0 where
+  pub scale : IsScale s
+  pub point : owns area e n ≡ true
+
+abbrev pub sheetUnder : ℕ → ℤ → ℤ → ℕ
+sheetUnder s e n = sheetOf s (record { row = rowAt s n; column = columnAt s e })
 
 -- the cells of a size that the stretch from a up to b of a line meets
 abbrev pub spanOf : ℕ → ℕ → ℕ → Span

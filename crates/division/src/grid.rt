@@ -41,15 +41,16 @@ pub(crate) fn distance(b: i64, a: i64) -> u64
     (b - a) as u64
 }
 
-// The column and the row of a scale in which a point of the area lies.
+// The column and the row of a scale in which a point of the area lies. 32 bits hold any distance in the area, and a machine divides such
+// numbers in less time than those of 64 bits.
 pub(crate) fn column_at(s: u32, e: i64) -> u32
     requires { ⌜ IsScale s ⌝ }
     requires { ⌜ (area .west ≤ᶻ e) ≡ true ⌝ }
     requires { ⌜ (e <ᶻ area .east) ≡ true ⌝ }
     ensures { λ r. ⌜ r ≡ columnAt s e ⌝ }
 {
-    let w = millimetres(Scale(s).width());
-    (distance(e, WEST) / w) as u32
+    let w = Scale(s).width() * 1_000;
+    distance(e, WEST) as u32 / w
 }
 
 pub(crate) fn row_at(s: u32, n: i64) -> u32
@@ -58,8 +59,8 @@ pub(crate) fn row_at(s: u32, n: i64) -> u32
     requires { ⌜ (n ≤ᶻ area .north) ≡ true ⌝ }
     ensures { λ r. ⌜ r ≡ rowAt s n ⌝ }
 {
-    let h = millimetres(Scale(s).height());
-    (distance(NORTH, n) / h) as u32
+    let h = Scale(s).height() * 1_000;
+    distance(NORTH, n) as u32 / h
 }
 
 // The west edge of a column and the north edge of a row; one past the last is the area's east and south edge.

@@ -17,7 +17,7 @@ ghost use Prim.Native.Nat.{_≤_, _<_};
 ghost use Rattle.division.specs.Table.{made};
 ghost use Rattle.division.specs.Sheet.{isSheet, areaIndex, areaPlace, numberIn, parentPlace, childPlace, indexAt, placeAt, sheetOf, scaleOf, spotOf, onGrid, locate, sheetOn, sheetAt, cornersOf};
 ghost use Rattle.division.specs.Answers.{sheetPaper, spotPaper, cornersPaper};
-ghost use Rattle.division.specs.Given.{OnGrid, Indexed, Parted, PartPlace};
+ghost use Rattle.division.specs.Given.{OnGrid, Indexed, Parted, PartPlace, Inside, sheetUnder};
 
 pub fn is_sheet(n: u32) -> bool
     ensures { λ r. ⌜ r ≡ isSheet n ⌝ }
@@ -174,6 +174,40 @@ pub fn sheet_on(scale: u32, place: Place) -> Found
     Found::Sheet(number_at(scale, place))
 }
 
+// The sheet of a scale under a point of the area.
+fn number_under(s: u32, e: i64, n: i64) -> u32
+    requires { ⌜ Inside s e n ⌝ }
+    ensures { λ r. ⌜ r ≡ sheetUnder s e n ⌝ }
+{
+    let row = row_at(s, n);
+    let column = column_at(s, e);
+    number_at(
+        s,
+        Place {
+            row: row,
+            column: column,
+        },
+    )
+}
+
+// Each scale has an arm of its own, so that a compiled program divides by numbers that it knows.
+fn number_by_scale(s: u32, e: i64, n: i64) -> u32
+    requires { ⌜ Inside s e n ⌝ }
+    ensures { λ r. ⌜ r ≡ sheetUnder s e n ⌝ }
+{
+    match s {
+        1 => number_under(1, e, n),
+        2 => number_under(2, e, n),
+        3 => number_under(3, e, n),
+        4 => number_under(4, e, n),
+        5 => number_under(5, e, n),
+        6 => number_under(6, e, n),
+        7 => number_under(7, e, n),
+        8 => number_under(8, e, n),
+        _ => number_under(9, e, n),
+    }
+}
+
 // The sheet of a scale in which a point lies.
 pub fn sheet_at(scale: u32, e: i64, n: i64) -> Found
     ensures { λ r. ⌜ sheetPaper r ≡ sheetAt scale e n ⌝ }
@@ -184,15 +218,7 @@ pub fn sheet_at(scale: u32, e: i64, n: i64) -> Found
     if !in_area(e, n) {
         return Found::Refused(Refusal::PointOutside);
     }
-    let row = row_at(scale, n);
-    let column = column_at(scale, e);
-    Found::Sheet(number_at(
-        scale,
-        Place {
-            row: row,
-            column: column,
-        },
-    ))
+    Found::Sheet(number_by_scale(scale, e, n))
 }
 
 // The corners of a sheet: its west, east, south and north edge.

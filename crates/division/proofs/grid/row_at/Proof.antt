@@ -1,41 +1,34 @@
--- The distance from the north edge, cut into heights, is a row of the grid. Assumes nothing.
-use mathlib.Core.Path.{_≡_}
+-- The distance from the north edge, cut into heights, is a row of the grid; both fit 32 bits. Assumes nothing.
 use native.Mathlib.Omega.{arith}
 use borrow.Author.Needs.{needs}
-use Rattle.division.specs.Table.{height}
-use Rattle.division.specs.Grid.{millimetres}
 use Rattle.division.proofs.TestLaws.{back, below}
 use Rattle.division.proofs.TableLaws.{rules}
-use Rattle.division.proofs.GridLaws.{some-height, north, row-in}
+use Rattle.division.proofs.GridLaws.{some-height, north, north-few}
 use Rattle.division.proofs.grid.row_at.Statement.{statement}
 use Rattle.division.proofs.grid.row_at.Tie as tie
 
 height-requires : tie.Need-height-requires
 height-requires c κs = search needs
 
-millimetres-requires : tie.Need-millimetres-requires
-millimetres-requires c κs = search needs
+mul-h : tie.Need-mul-h
+mul-h c = record { fits = omega (arith, c .height .ensures, rules (c .before .pre .0) .few-height) }
 
 distance-requires : tie.Need-distance-requires
 distance-requires c κs =
-    let a = c .before .before in
+    let a = c .before in
     rw (back (a .fits .n)) (below 4_570_000_000 0 (a .args .n) (omega arith) (a .pre .1 .0), a .pre .1 .1)
 
-size : (c : tie.After-millimetres) → c .millimetres .result ≡ millimetres (height (c .before .before .args .s))
-size c = rw (c .before .height .ensures) at (c .millimetres .ensures)
-
-div-result : tie.Need-div-result
-div-result c = rw (size (c .before)) (some-height (c .before .before .before .pre .0))
-
 returns : tie.Need-returns
-returns c = rw (size (c .before), c .distance .ensures, back (c .before .before .before .fits .n))
+returns c = rw (c .before .height .ensures, c .distance .ensures, back (c .before .before .fits .n))
 
 cast-result : tie.Need-cast-result
 cast-result c =
-    let a = c .before .before .before in
-    omega (arith, returns c, row-in (a .pre .0) (north (a .args .n) (a .pre .1 .0) (a .pre .1 .1)), rules (a .pre .0) .few-rows)
+    let a = c .before .before in
+    record { fits = omega (arith, rw (back (a .fits .n)) at (c .distance .ensures), north-few (north (a .args .n) (a .pre .1 .0) (a .pre .1 .1))) }
+
+div-result : tie.Need-div-result
+div-result c = rw (c .before .height .ensures) (some-height (c .before .before .pre .0))
 
 pub row-at-spec : {M : Type 1} → statement M
 row-at-spec =
-    tie.close
-    (tie.spec height-requires millimetres-requires distance-requires div-result cast-result returns)
+    tie.close (tie.spec height-requires mul-h distance-requires cast-result div-result returns)
