@@ -1,3 +1,4 @@
 pub mod LineLaws
+pub mod GroundLaws
 pub mod PartLaws
 pub mod LineTheorems

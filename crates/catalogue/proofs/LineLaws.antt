@@ -34,7 +34,7 @@ pub label-cut : (n : ℕ) (line : List ℕ) → labelIn (take n line) ≡ take n
 unfolding labelIn
 label-cut n line = piece-take 32 n line
 
-name-taken : (line : List ℕ) → take (length line - (length (labelIn line) + 1)) (nameIn line) ≡ nameIn line
+pub name-taken : (line : List ℕ) → take (length line - (length (labelIn line) + 1)) (nameIn line) ≡ nameIn line
 name-taken line =
     take-all (length line - (length (labelIn line) + 1)) (nameIn line) (omega (arith, length-drop (length (labelIn line) + 1) line))
 

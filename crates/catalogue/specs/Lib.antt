@@ -1,3 +1,4 @@
 pub mod Line
+pub mod Ground
 pub mod Parts
 pub mod Given

@@ -2,6 +2,9 @@
 use division::Found;
 use division::table::Scale;
 use fault::piece::piece_end;
+use reading::Front;
+use reading::Fronted;
+use reading::at_front::read_front;
 use reading::labels::read_label;
 use refusal::Refusal;
 ghost use mathlib.Core.Path.{_≡_};
@@ -10,8 +13,10 @@ ghost use lib.ListN.{length};
 ghost use Rattle.division.specs.Answers.{sheetPaper};
 ghost use Rattle.division.specs.Words.{between};
 ghost use Rattle.label.specs.Text.{every};
+ghost use Rattle.reading.specs.Front.{frontPaper};
 ghost use Rattle.catalogue.specs.Line.{labelIn, isNameByte, isName, withName, readLine};
-ghost use Rattle.catalogue.specs.Given.{namedPaper};
+ghost use Rattle.catalogue.specs.Ground.{readGround};
+ghost use Rattle.catalogue.specs.Given.{namedPaper, frontWith};
 
 // Where a line's label ends: at its first space, or at the line's end. No label has 17 bytes, so the search ends there.
 pub(crate) fn label_end(line: &[u8]) -> usize
@@ -96,5 +101,32 @@ fn named(found: Found, name: &[u8]) -> Found
     match found {
         Found::Refused(why) => Found::Refused(why),
         Found::Sheet(n) => with_name(n, name),
+    }
+}
+
+// The sheet of a line with its corners, which the label's fields tell: whoever wants both need not take the sheet's number apart again.
+pub fn read_ground(line: &[u8]) -> Fronted
+    ensures { λ r. ⌜ frontPaper r ≡ readGround (now (line .entry)) ⌝ }
+{
+    match read_front(line) {
+        Fronted::Refused(why) => Fronted::Refused(why),
+        Fronted::Label(front) => {
+            let end = front.end;
+            if end == line.len() {
+                return Fronted::Label(front);
+            }
+            let start = end + 1;
+            named_front(front, &line[start..])
+        }
+    }
+}
+
+// What a line's front tells, with a name behind the label.
+fn named_front(front: Front, name: &[u8]) -> Fronted
+    ensures { λ r. ⌜ frontPaper r ≡ frontWith (now (name .entry)) front ⌝ }
+{
+    match with_name(front.sheet, name) {
+        Found::Refused(why) => Fronted::Refused(why),
+        Found::Sheet(_) => Fronted::Label(front),
     }
 }

@@ -208,6 +208,13 @@ judge-refuses {A} why next e = rw (e, on-paper why .is A, on-paper why .is Unit)
 pub asked-on : {A B : Type 0} {p : Paper A} (why : Refusal) (next : A → Paper B) → onPaper why ≡ p → onPaper why ≡ (p >>= next)
 asked-on {A} {B} why next e = rw (← e, on-paper why .is A, on-paper why .is B)
 
+-- and if nothing that is asked on would refuse, the question did
+pub asked-back : {A B : Type 0} (p : Paper A) (next : A → B) (why : Refusal) → onPaper why ≡ (p >>= λ a. answer (next a)) → onPaper why ≡ p
+asked-back {B = B} (answer a) next why e = absurd (differs (sym e ∙ on-paper why .is B))
+asked-back {A} {B} (refused n v) next why e =
+    let f : _≡_ {A = Paper B} (refused (on-paper why .number) (on-paper why .value)) (refused n v) = sym (on-paper why .is B) ∙ e in
+    on-paper why .is A ∙ rw (same-number f, same-value f)
+
 -- items that are laid: all of them, where there is room
 pub laid-fits : (items : List ℕ) {room : ℕ} → length items ≤ room → laid items room ≡ answer items
 laid-fits items {room} h = rw (le-leb (length items) room h)

@@ -1,18 +1,15 @@
 -- The words of a row, each behind a space; a sheet's number has at most seven digits. Assumes nothing.
-use mathlib.Core.Path.{_≡_, refl, sym, ap, _∙_}
+use mathlib.Core.Path.{_≡_, refl, ap}
 use mathlib.Core.Bool.{true, false}
 use mathlib.Core.List.{List, [], _∷_, _++_, flatMap, append-assoc, append-nil}
 use Prim.Native.Nat.{ℕ, _<_}
 use native.Mathlib.Omega.{arith}
 use borrow.Author.Tests.{leb-true}
-use Rattle.refusal.specs.Paper.{refused, isAnswer}
-use Rattle.refusal.specs.Numbers.{onPaper, carries}
+use Rattle.refusal.specs.Paper.{refused}
+use Rattle.refusal.specs.Numbers.{carries}
 use Rattle.refusal.specs.Given.{Wrote}
-use Rattle.refusal.specs.declared.Refusal.{Refusal}
-use Rattle.refusal.proofs.PaperLaws.{no-answer}
 use Rattle.division.specs.declared.Edges.{Edges}
-use Rattle.division.specs.Sheet.{isSheet, cornersOf}
-use Rattle.division.proofs.MetreLaws.{corners-ground}
+use Rattle.division.specs.Sheet.{isSheet}
 use Rattle.label.specs.Text.{text, join, decimal}
 use Rattle.catalogue.specs.Line.{readLine}
 use Rattle.rows.specs.Row.{metres, frameWords, words, outputLine}
@@ -46,9 +43,5 @@ row-wrote number line w = rw (row-is number line) w
 
 -- ---- a sheet
 
-module _ (n : ℕ) (h : isSheet n ≡ true) where
-  pub sheet-few : n < 10_000_000
-  sheet-few = let l = leb-true n 7_953_173 h in omega arith
-
-  pub not-refused : (why : Refusal) → onPaper why ≡ cornersOf n → ⊥
-  not-refused why q = let z : true ≡ false = ap isAnswer (sym (q ∙ corners-ground n h)) ∙ no-answer Edges why in let y : _≡_ {A = ℕ} 0 1 = cc in omega arith
+pub sheet-few : (n : ℕ) → isSheet n ≡ true → n < 10_000_000
+sheet-few n h = let l = leb-true n 7_953_173 h in omega arith

@@ -1,9 +1,7 @@
 // The row of a line: its number, then the sheet and its edges, or the refusal.
-use catalogue::line::read_line;
-use division::Corners;
+use catalogue::line::read_ground;
 use division::Edges;
-use division::Found;
-use division::sheet::corners_of;
+use reading::Fronted;
 use refusal::Laid;
 use refusal::Refusal;
 use refusal::lay;
@@ -216,16 +214,9 @@ fn put_answer(line: &[u8], out: &mut [u8], at: usize) -> usize
     ensures { λ r. ⌜ Wrote (now (out .entry)) at (now (out .exit)) r (spaced (words (readLine (now (line .entry))))) ⌝ }
     ensures { λ r. ⌜ r ≤ at + 40 ⌝ }
 {
-    let found = read_line(line);
-    match found {
-        Found::Refused(why) => put_refusal(why, out, at),
-        Found::Sheet(n) => {
-            let corners = corners_of(n);
-            match corners {
-                Corners::Framed(e) => put_ground(n, e, out, at),
-                Corners::Refused(_) => at,
-            }
-        }
+    match read_ground(line) {
+        Fronted::Refused(why) => put_refusal(why, out, at),
+        Fronted::Label(front) => put_ground(front.sheet, front.corners, out, at),
     }
 }
 
