@@ -5,7 +5,7 @@ use mathlib.Core.Bool.{Bool, true, false, cond}
 use mathlib.Core.List.{List, [], _∷_}
 use mathlib.Core.Option.{Option·getD}
 use Prim.Native.Nat.{ℕ}
-use lib.ListN.{length}
+use lib.ListN.{length, getD}
 use Rattle.refusal.specs.Paper.{Paper, _>>=_}
 use Rattle.refusal.specs.Numbers.{isIn}
 use Rattle.division.specs.Words.{_≤?_, _=?_, between}
@@ -22,8 +22,11 @@ use Rattle.local.specs.declared.Local.{Local}
 use Rattle.local.specs.declared.Local.the-variants.{One, Two, Three}
 use Rattle.local.specs.Municipality.{of2000, municipality}
 use Rattle.local.specs.Numbers.{sheetNumbered, part, standsFor, localToSheet, numberOf, oneNumber, twoNumbers, threeNumbers, numbersOf, sheetToLocal}
+use Rattle.label.specs.Text.{split}
 use Rattle.label.specs.Label.{labelOf, writeLabel, labelLength}
 use Rattle.label.proofs.PlaceTheorems.{refused-iff, place-within}
+use Rattle.reading.specs.Front.{readFront}
+use Rattle.catalogue.specs.Ground.{readGround}
 use Rattle.catalogue.proofs.LineTheorems.{label-refuses}
 use Rattle.official.specs.Lookup.{nameOf, is250000, writeName, nameTold}
 use Rattle.official.specs.Verdict.{checkAt, checkLine}
@@ -89,7 +92,7 @@ judged-gives kind Writing number = judge-gives kind 3 number refl refl
 judged-gives kind Reading number = judge-gives kind 13 number refl refl
 
 pub refusals-numbered : RefusalsNumbered
-unfolding sheetAt locate sheetOn cornersOf frameOf frameAtMetres parent child step walk offset cover blockIn writeLabel labelLength nameTold checkLine checkAt writeIn lengthIn holding partsOf localToSheet sheetToLocal checkDelivery
+unfolding sheetAt locate sheetOn cornersOf frameOf frameAtMetres parent child step walk offset cover blockIn writeLabel labelLength readFront readGround nameTold checkLine checkAt writeIn lengthIn holding partsOf localToSheet sheetToLocal checkDelivery
 refusals-numbered = record {
   points = λ s e n. line-gives 2 (isScale s) refl (line-gives 1 (owns area e n) refl answers);
   corners = λ n. line-gives 3 (isSheet n) refl answers;
@@ -114,6 +117,8 @@ refusals-numbered = record {
   labelled = λ n room. line-gives 3 (isSheet n) refl (laid-gives (labelOf n) room refl);
   measured = λ n. line-gives 3 (isSheet n) refl answers;
   lines = line-of-gives (label-gives refl refl refl refl refl) refl refl;
+  fronts = λ line. found-gives (label-gives refl refl refl refl refl (getD (split 32 line) 0 [])) λ n. answers;
+  grounds = λ line. found-gives (line-of-gives (label-gives refl refl refl refl refl) refl refl line) λ n. answers;
   names = name-gives;
   named = λ n room. found-gives (name-gives n room) λ written. answers;
   checks = λ line. found-gives (line-of-gives (label-gives refl refl refl refl refl) refl refl line) λ n. line-gives 22 (is250000 n) refl answers;
