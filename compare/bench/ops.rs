@@ -2,8 +2,8 @@
 //!
 //! Every question is first put to both, and the answers must agree. Both are called, neither is set into the loop that asks. A line of
 //! output has the operation, our nanoseconds for a question and Rust's, with tabs between.
-//! Questions come from one seed, so every run asks the same. Arguments: the number of runs; then, to count instructions, the beginning of
-//! an operation's name and `ours` or `rust`, which alone is run then.
+//! Questions come from one seed, so every run asks the same, and the first labels of a catalogue from that. Arguments: the number of runs and
+//! the catalogue; then, to count instructions, the beginning of an operation's name and `ours` or `rust`, which alone is run then.
 use std::hint::black_box;
 use std::time::Instant;
 
@@ -82,6 +82,12 @@ fn labels(numbers: &mut Numbers) -> Vec<Vec<u8>> {
         if numbers.draw(0, 9) == 0 { worse(label, numbers) } else { label }
     };
     (0..LABELS).map(any_label).collect()
+}
+
+/// The first labels of a catalogue: what stands before the first space of a line.
+fn labels_of(catalogue: &str) -> Vec<Vec<u8>> {
+    let bytes = std::fs::read(catalogue).expect(catalogue);
+    bytes.split(|&b| b == b'\n').take(LABELS).map(|line| line.split(|&b| b == b' ').next().unwrap().to_vec()).collect()
 }
 
 /// Scale, east and north of points all over the area.
@@ -306,7 +312,7 @@ fn deliveries(count: usize, any: fn(&mut Numbers) -> Delivery, numbers: &mut Num
 
 #[inline(never)]
 fn rust_read_label(label: &[u8]) -> (u32, u64) {
-    match sheets::read_label::<false>(label) {
+    match sheets::read_label(label) {
         Ok(sheet) => (0, sheet.number as u64),
         Err((why, place)) => (why, place as u64),
     }
@@ -547,12 +553,16 @@ fn lists(sets: &[Vec<u32>], write: fn(&[u32], &mut [u8]) -> sheets::Written, num
 
 fn main() {
     let mut arguments = std::env::args().skip(1);
-    let runs = arguments.next().map_or(15, |n| n.parse().expect("the number of runs"));
+    let runs = arguments.next().expect("the number of runs").parse().expect("a number of runs");
+    let catalogue = arguments.next().expect("a catalogue");
     let both = Race { runs, only: arguments.next().zip(arguments.next()) };
     let numbers = &mut Numbers(SEED);
 
     let labels = labels(numbers);
-    both.race("label reading", &labels, 1, 0, |q, _: &mut [u8]| our_read_label(q), |q, _| rust_read_label(q));
+    both.race("label reading, scales alike", &labels, 1, 0, |q, _: &mut [u8]| our_read_label(q), |q, _| rust_read_label(q));
+
+    let lines = labels_of(&catalogue);
+    both.race("label reading, a catalogue's lines", &lines, 1, 0, |q, _: &mut [u8]| our_read_label(q), |q, _| rust_read_label(q));
 
     let named: Vec<u32> = (0..LABELS).map(|_| any_sheet(numbers)).collect();
     both.race("label writing", &named, 1, LONGEST_LABEL, |&q, r| our_write_label(q, r), |&q, r| rust_write_label(q, r));

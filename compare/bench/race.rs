@@ -52,7 +52,7 @@ fn main() {
 
     let mut least: Vec<(String, f64, f64)> = Vec::new();
     for _ in 0..PROCESSES {
-        let output = Command::new(ops).arg(RUNS).stderr(Stdio::inherit()).output().expect(ops);
+        let output = Command::new(ops).args([RUNS, lines]).stderr(Stdio::inherit()).output().expect(ops);
         assert!(output.status.success(), "{ops} failed");
         for line in String::from_utf8(output.stdout).expect("text").lines() {
             let parts: Vec<&str> = line.split('\t').collect();

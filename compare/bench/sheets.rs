@@ -1,11 +1,12 @@
 //! The definition in plain Rust, for its time alone: labels, points, also in metres, names, local numbers, shelf lists of both kinds and
 //! deliveries.
 //!
-//! Written as a careful Rust programmer would write it: one table, one pass over the bytes, no allocation, and a second pass only for the
-//! place at which a label is at fault, and for names of which not all bytes are the same. A municipality is not sorted: what its list's
-//! order tells already is used, and the rest is counted. Of a delivery each sheet is marked at its place in the cover, which its row and
-//! column tell, worked out with numbers that are known for each scale. A refusal is its number, with that place beside it, the room needed
-//! where lent room can be too short, or the sheet that is missing. Each program here uses a part of it.
+//! Written as a careful Rust programmer would write it who wants the time: one table, labels field by field in one pass over the bytes, each
+//! scale with an arm of its own whose numbers the compiler knows, a list's number written out, no allocation, and a second pass, on a cold
+//! path, only for the place at which a label is at fault, and for names of which not all bytes are the same. A municipality is not sorted:
+//! what its list's order tells already is used, and the rest is counted. Of a delivery each sheet is marked at its place in the cover, which
+//! its row and column tell. A refusal is its number, with that place beside it, the room needed where lent room can be too short, or the sheet
+//! that is missing. Each program here uses a part of it.
 #![allow(dead_code)]
 
 use std::ops::Range;
@@ -67,36 +68,46 @@ pub struct Sheet {
     pub north: u32,
 }
 
-/// Place among the scale's sheets, and where `GROUND` is wanted west and north, otherwise 0; or the first field out of range.
-fn ground<const GROUND: bool>(scale: usize, values: &[u64; 8]) -> Result<(u32, u32, u32), usize> {
-    let mut s = &SCALES[scale];
-    let mut field = 1;
-    let (mut place, mut weight, mut east, mut south) = (0, 1, 0, 0);
-    while let Some(made) = &s.made {
-        let part = values[field].wrapping_sub(1);
-        if part >= (made.side * made.side) as u64 {
-            return Err(field);
-        }
-        let part = part as u32;
-        place += weight * part;
-        weight *= made.side * made.side;
-        if GROUND {
-            east += part % made.side * s.width;
-            south += part / made.side * s.height;
-        }
-        s = &SCALES[made.above];
-        field += 1;
-    }
-    let (row, column) = (values[field].wrapping_sub(101), values[field + 1].wrapping_sub(1));
+/// The numbers of a label's fields. 16 bytes hold at most eight.
+type Fields = [u64; 8];
+
+/// Place among the scale's sheets, and how far east and south of the area's corner; or the first field out of range.
+struct Ground {
+    place: u32,
+    east: u32,
+    south: u32,
+}
+
+/// By row and column, where a scale is made from the area, and by the number in the sheet above, where it is made from another. Which scale it
+/// is is known when this is compiled.
+#[inline(always)]
+fn by_area<const SCALE: usize>(fields: &Fields, at: usize) -> Result<Ground, usize> {
+    let s = &SCALES[SCALE];
+    let (row, column) = (fields[at].wrapping_sub(101), fields[at + 1].wrapping_sub(1));
     if row >= s.rows as u64 {
-        return Err(field);
+        return Err(at);
     }
     if column >= s.columns as u64 {
-        return Err(field + 1);
+        return Err(at + 1);
     }
     let (row, column) = (row as u32, column as u32);
-    place += weight * (row * s.columns + column);
-    Ok(if GROUND { (place, WEST + east + column * s.width, NORTH - south - row * s.height) } else { (place, 0, 0) })
+    Ok(Ground { place: row * s.columns + column, east: column * s.width, south: row * s.height })
+}
+
+#[inline(always)]
+fn by_part<const SCALE: usize, const SIDE: u32>(
+    fields: &Fields,
+    at: usize,
+    above: impl Fn(&Fields, usize) -> Result<Ground, usize>,
+) -> Result<Ground, usize> {
+    let s = &SCALES[SCALE];
+    let part = fields[at].wrapping_sub(1);
+    if part >= (SIDE * SIDE) as u64 {
+        return Err(at);
+    }
+    let part = part as u32;
+    let Ground { place, east, south } = above(fields, at + 1)?;
+    Ok(Ground { place: place * SIDE * SIDE + part, east: east + part % SIDE * s.width, south: south + part / SIDE * s.height })
 }
 
 /// What is wrong with a label that is empty, too long, or has a byte, an empty field or a leading zero that it must not have, and where.
@@ -125,122 +136,161 @@ fn start_of(label: &[u8], field: usize) -> usize {
     label.split(|&b| b == b'-').take(field).map(|before| before.len() + 1).sum()
 }
 
-/// The sheet of a label, with its west and north where `GROUND` is wanted; or the refusal and its place in the label.
-pub fn read_label<const GROUND: bool>(label: &[u8]) -> Result<Sheet, (u32, usize)> {
-    if label.is_empty() || label.len() > LONGEST_LABEL {
-        return Err(badly_formed(label));
+/// The numbers of a label's fields, and how many there are; none if it is badly formed. Field by field: a first digit, those behind it, a hyphen.
+#[inline(always)]
+fn fields_in(label: &[u8]) -> Option<(Fields, usize)> {
+    if label.len() > LONGEST_LABEL {
+        return None;
     }
-    let mut values = [0u64; 8];
-    let mut fields = 0;
-    let mut digits = 0;
-    let mut value = 0u64;
-    for &b in label {
-        if b == b'-' {
-            // An eighth hyphen among 16 bytes leaves some field empty.
-            if digits == 0 || fields == 7 {
-                return Err(badly_formed(label));
-            }
-            values[fields] = value;
-            fields += 1;
-            digits = 0;
-            value = 0;
-        } else {
-            let d = b.wrapping_sub(b'0');
-            if d > 9 || (digits > 0 && value == 0) {
-                return Err(badly_formed(label));
-            }
-            value = value * 10 + d as u64;
-            digits += 1;
+    let mut fields = [0; 8];
+    let (mut count, mut at) = (0, 0);
+    loop {
+        let first = label.get(at)?.wrapping_sub(b'0');
+        if first > 9 || count == 8 {
+            return None;
         }
+        let mut value = first as u64;
+        at += 1;
+        while at < label.len() {
+            let digit = label[at].wrapping_sub(b'0');
+            if digit > 9 {
+                break;
+            }
+            if first == 0 {
+                return None;
+            }
+            value = value * 10 + digit as u64;
+            at += 1;
+        }
+        fields[count] = value;
+        count += 1;
+        if at == label.len() {
+            return Some((fields, count));
+        }
+        if label[at] != b'-' {
+            return None;
+        }
+        at += 1;
     }
-    if digits == 0 {
-        return Err(badly_formed(label));
-    }
-    values[fields] = value;
-    fields += 1;
-    let scale = match (values[0], fields) {
-        (250, 3) => 0,
-        (100, 3) => 1,
-        (50, 3) => 2,
-        (25, 4) => 3,
-        (10, 4) => 4,
-        (5, 5) => 5,
-        (2, 4) => 6,
-        (1, 5) => 7,
-        (5, 6) => 8,
+}
+
+/// The sheet of a label, with its west and north; or the refusal and its place in the label.
+#[inline(always)]
+pub fn read_label(label: &[u8]) -> Result<Sheet, (u32, usize)> {
+    let Some((fields, count)) = fields_in(label) else { return Err(badly_formed(label)) };
+    let of_50_000 = by_area::<2>;
+    let of_25_000 = |fields: &Fields, at| by_part::<3, 2>(fields, at, of_50_000);
+    let of_2_000 = |fields: &Fields, at| by_part::<6, 25>(fields, at, of_50_000);
+    let of_1_000 = |fields: &Fields, at| by_part::<7, 2>(fields, at, of_2_000);
+    let (scale, ground) = match (fields[0], count) {
+        (250, 3) => (0, by_area::<0>(&fields, 1)),
+        (100, 3) => (1, by_area::<1>(&fields, 1)),
+        (50, 3) => (2, of_50_000(&fields, 1)),
+        (25, 4) => (3, of_25_000(&fields, 1)),
+        (10, 4) => (4, by_part::<4, 5>(&fields, 1, of_50_000)),
+        (5, 5) => (5, by_part::<5, 5>(&fields, 1, of_25_000)),
+        (2, 4) => (6, of_2_000(&fields, 1)),
+        (1, 5) => (7, of_1_000(&fields, 1)),
+        (5, 6) => (8, by_part::<8, 2>(&fields, 1, of_1_000)),
         _ => return Err((21, 0)),
     };
-    let (place, west, north) = ground::<GROUND>(scale, &values).map_err(|field| (5, start_of(label, field)))?;
-    Ok(Sheet { scale, number: SCALES[scale].first + place, west, north })
+    let ground = ground.map_err(|field| (5, start_of(label, field)))?;
+    Ok(Sheet { scale, number: SCALES[scale].first + ground.place, west: WEST + ground.east, north: NORTH - ground.south })
 }
 
-/// A number of at most three digits.
-fn put_field(n: u32, text: &mut [u8; LONGEST_LABEL], mut at: usize) -> usize {
-    if n >= 100 {
-        text[at] = b'0' + (n / 100) as u8;
-        at += 1;
-    }
-    if n >= 10 {
-        text[at] = b'0' + (n / 10 % 10) as u8;
-        at += 1;
-    }
-    text[at] = b'0' + (n % 10) as u8;
-    at + 1
+/// A number of at most three digits. All three are put, and a zero in front is put over by the digit behind it.
+#[inline(always)]
+fn put_field(n: u32, text: &mut [u8; LONGEST_LABEL + 2], at: usize) -> usize {
+    let tens = at + (n >= 100) as usize;
+    let ones = tens + (n >= 10) as usize;
+    text[at] = b'0' + (n / 100) as u8;
+    text[tens] = b'0' + (n / 10 % 10) as u8;
+    text[ones] = b'0' + (n % 10) as u8;
+    ones + 1
 }
 
-fn put_part(n: u32, text: &mut [u8; LONGEST_LABEL], at: usize) -> usize {
+#[inline(always)]
+fn put_part(n: u32, text: &mut [u8; LONGEST_LABEL + 2], at: usize) -> usize {
     text[at] = b'-';
     put_field(n, text, at + 1)
+}
+
+/// The fields of a label behind its first number, as many parts as there are sides; which scale it is is known when this is compiled.
+#[inline(always)]
+fn put_fields<const SCALE: usize, const PARTS: usize>(sheet: u32, sides: [u32; PARTS], columns: u32, text: &mut [u8; LONGEST_LABEL + 2]) -> usize {
+    let mut place = sheet - SCALES[SCALE].first;
+    let mut at = put_field(SCALES[SCALE].mark, text, 0);
+    for side in sides {
+        at = put_part(place % (side * side) + 1, text, at);
+        place /= side * side;
+    }
+    at = put_part(101 + place / columns, text, at);
+    put_part(1 + place % columns, text, at)
 }
 
 pub fn write_label(sheet: u32, room: &mut [u8]) -> Result<usize, (u32, usize)> {
     if sheet > LAST_SHEET {
         return Err((3, 0));
     }
-    let mut scale = 8;
-    while sheet < SCALES[scale].first {
-        scale -= 1;
+    // As many scales begin at or before the sheet, which takes no guess.
+    let scale: usize = SCALES[1..].iter().map(|s| (s.first <= sheet) as usize).sum();
+    let text = &mut [0; LONGEST_LABEL + 2];
+    let length = match scale {
+        0 => put_fields::<0, 0>(sheet, [], 4, text),
+        1 => put_fields::<1, 0>(sheet, [], 10, text),
+        2 => put_fields::<2, 0>(sheet, [], 20, text),
+        3 => put_fields::<3, 1>(sheet, [2], 20, text),
+        4 => put_fields::<4, 1>(sheet, [5], 20, text),
+        5 => put_fields::<5, 2>(sheet, [5, 2], 20, text),
+        6 => put_fields::<6, 1>(sheet, [25], 20, text),
+        7 => put_fields::<7, 2>(sheet, [2, 25], 20, text),
+        _ => put_fields::<8, 3>(sheet, [2, 2, 25], 20, text),
+    };
+    if room.len() < length {
+        return Err((10, length));
     }
-    let mut s = &SCALES[scale];
-    let mut place = sheet - s.first;
-    let mut text = [0; LONGEST_LABEL];
-    let mut at = put_field(s.mark, &mut text, 0);
-    while let Some(made) = &s.made {
-        let each = made.side * made.side;
-        at = put_part(place % each + 1, &mut text, at);
-        place /= each;
-        s = &SCALES[made.above];
-    }
-    at = put_part(101 + place / s.columns, &mut text, at);
-    at = put_part(1 + place % s.columns, &mut text, at);
-    if room.len() < at {
-        return Err((10, at));
-    }
-    room[..at].copy_from_slice(&text[..at]);
-    Ok(at)
+    room[..length].copy_from_slice(&text[..length]);
+    Ok(length)
 }
 
 // ---- points
 
+/// Place among the scale's sheets, by row and column, as many parts as there are sides; which scale it is is known when this is compiled.
+#[inline(always)]
+fn place_on<const SCALE: usize, const PARTS: usize>(east: u32, south: u32, sides: [u32; PARTS], columns: u32) -> u32 {
+    let s = &SCALES[SCALE];
+    let (mut row, mut column) = (south / (s.height * 1_000), east / (s.width * 1_000));
+    let (mut number, mut weight) = (s.first, 1);
+    for side in sides {
+        number += weight * (row % side * side + column % side);
+        weight *= side * side;
+        row /= side;
+        column /= side;
+    }
+    number + weight * (row * columns + column)
+}
+
 pub fn sheet_at(scale: u32, e: i64, n: i64) -> Result<u32, u32> {
-    let mut s = SCALES.get((scale as usize).wrapping_sub(1)).ok_or(2u32)?;
+    if !(1..=9).contains(&scale) {
+        return Err(2);
+    }
     let east = e.wrapping_sub(WEST as i64 * 1_000) as u64;
     let south = (NORTH as i64 * 1_000).wrapping_sub(n) as u64;
     if east >= (EAST - WEST) as u64 * 1_000 || south >= (NORTH - SOUTH) as u64 * 1_000 {
         return Err(1);
     }
-    let mut column = east as u32 / (s.width * 1_000);
-    let mut row = south as u32 / (s.height * 1_000);
-    let (mut number, mut weight) = (s.first, 1);
-    while let Some(made) = &s.made {
-        let side = made.side;
-        number += weight * (row % side * side + column % side);
-        weight *= side * side;
-        row /= side;
-        column /= side;
-        s = &SCALES[made.above];
-    }
-    Ok(number + weight * (row * s.columns + column))
+    let (east, south) = (east as u32, south as u32);
+    Ok(match scale {
+        1 => place_on::<0, 0>(east, south, [], 4),
+        2 => place_on::<1, 0>(east, south, [], 10),
+        3 => place_on::<2, 0>(east, south, [], 20),
+        4 => place_on::<3, 1>(east, south, [2], 20),
+        5 => place_on::<4, 1>(east, south, [5], 20),
+        6 => place_on::<5, 2>(east, south, [5, 2], 20),
+        7 => place_on::<6, 1>(east, south, [25], 20),
+        8 => place_on::<7, 2>(east, south, [2, 25], 20),
+        _ => place_on::<8, 3>(east, south, [2, 2, 25], 20),
+    })
 }
 
 const FRACTION: u64 = (1 << 52) - 1;
@@ -500,21 +550,25 @@ pub fn write_holdings(holdings: &[u32], room: &mut [u8]) -> Written {
     write_numbers(holdings, NEW_LIST, room, |holding| up_to(LAST_HOLDING, holding, 3).and_then(had))
 }
 
-/// The number at a place, and the place behind it.
-fn next_number(list: &[u8], mut at: usize) -> Result<(u32, usize), u32> {
-    let (mut value, mut shift) = (0, 0);
-    while let Some(&b) = list.get(at) {
-        at += 1;
-        if b < 128 {
-            return if b == 0 && shift > 0 { Err(12) } else { Ok((value | (b as u32) << shift, at)) };
-        }
-        if shift == 21 {
-            return Err(12);
-        }
-        value |= (b as u32 & 127) << shift;
-        shift += 7;
+/// The number at a place, and the place behind it: in one group, two, three or four.
+#[inline(always)]
+fn next_number(list: &[u8], at: usize) -> Result<(u32, usize), u32> {
+    let byte = |at: usize| list.get(at).map(|&b| b as u32).ok_or(11u32);
+    let last = |group: u32, value: u32, end: usize| if group == 0 { Err(12) } else { Ok((value, end)) };
+    let a = byte(at)?;
+    if a < 128 {
+        return Ok((a, at + 1));
     }
-    Err(11)
+    let (b, a) = (byte(at + 1)?, a - 128);
+    if b < 128 {
+        return last(b, b << 7 | a, at + 2);
+    }
+    let (c, a) = (byte(at + 2)?, (b - 128) << 7 | a);
+    if c < 128 {
+        return last(c, c << 14 | a, at + 3);
+    }
+    let (d, a) = (byte(at + 3)?, (c - 128) << 14 | a);
+    if d < 128 { last(d, d << 21 | a, at + 4) } else { Err(12) }
 }
 
 /// The refusal and the room needed, or none; and how many were placed.
