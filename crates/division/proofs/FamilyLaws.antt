@@ -5,7 +5,7 @@ use native.Mathlib.Nat.{mod-lt, mul-pos, mul-add, mul-comm, mul-assoc, mul-le-mu
 use native.Mathlib.Omega.{arith}
 use Rattle.division.specs.declared.Place.{Place}
 use Rattle.division.specs.declared.table.Row.{Row}
-use Rattle.division.specs.Table.{Made, ofArea, ofScale, rowsOf, columnsOf, made, rows, columns, parentScale, side, parts, sheets, codeRow}
+use Rattle.division.specs.Table.{Made, ofArea, ofScale, table, tableRow, rowsOf, columnsOf, made, rows, columns, parentScale, side, parts, sheets, codeRow}
 use Rattle.division.specs.Sheet.{numberIn, parentPlace, childPlace, areaIndex, areaPlace, partIndex, indexAt, placeAt}
 use Rattle.division.specs.Given.{IsScale, OnGrid, Indexed, Parted, PartPlace}
 use Rattle.division.proofs.MadeLaws.{Sound, On, quot, number-few, sheets-parts, on-parent, on-place, left-one, left-few}
@@ -104,6 +104,11 @@ module _ {s : ℕ} (h : IsScale s) (e : parentScale s ≡ 0 → ⊥) where
 
     pub deep-room : PartPlace (side s) (placeAt (made (parentScale s)) (i / parts s)) (i % parts s + 1)
     deep-room = part-place (placeAt (made (parentScale s)) (i / parts s)) (i % parts s + 1) parent-place-on (left-one (side s) i (parted .some)) (left-few (side s) i (parted .some))
+
+-- the ninth is such a scale
+pub ninth-deep : parentScale 9 ≡ 0 → ⊥
+unfolding table tableRow
+ninth-deep e = omega arith
 
 -- ---- the index of a place, parent by parent: `index` is what the parts so far make, and `each` how many sheets one at `up` has
 

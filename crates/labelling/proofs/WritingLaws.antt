@@ -13,13 +13,13 @@ use mir.Val.{boolByte}
 use Rattle.refusal.specs.Given.{Wrote}
 use Rattle.division.specs.declared.table.Row.{Row}
 use Rattle.division.specs.Words.{_≤?_}
-use Rattle.division.specs.Table.{Made, made, rows, columns, parentScale, side, parts, first, codeRow}
+use Rattle.division.specs.Table.{Made, table, tableRow, made, rows, columns, parentScale, side, parts, first, codeRow}
 use Rattle.division.specs.Sheet.{placeAt, isSheet, scaleOf, indexOf}
 use Rattle.division.proofs.TestLaws.{le-or-less}
 use Rattle.division.proofs.MadeLaws.{Sound, quot, left-few}
 use Rattle.division.proofs.TableLaws.{rules}
 use Rattle.division.proofs.NumberLaws.{ranged, indexed}
-use Rattle.division.proofs.FamilyLaws.{top, deep, some-columns, parted, above, parent-indexed}
+use Rattle.division.proofs.FamilyLaws.{top, deep, some-columns, parted, above, parent-indexed, ninth-deep}
 use Rattle.label.specs.Text.{decimal}
 use Rattle.label.specs.Label.{markOf, fieldsOf, labelOf}
 use Rattle.label.specs.Given.{Small, behind, indexFields}
@@ -165,6 +165,25 @@ module _ {s t : ℕ} (e : s ≡ t) (n : ℕ) where
 
   pub arm-wrote : {d f : List ℕ} {at r : ℕ} → Wrote d at f r (behind (indexFields t (n - first t))) → Wrote d at f r (behind (indexFields s (n - first s)))
   arm-wrote {d} {f} {at} {r} w = subst (λ (u : ℕ). Wrote d at f r (behind (indexFields u (n - first u)))) (sym e) w
+
+-- ---- the fields of a sheet of the ninth scale, which is made from the eighth in 2 × 2: the number in the parent, and the parent's fields
+
+module _ {n at room f : ℕ} (x : SheetRoom 9 n at room) (e : f ≡ first 9) where
+  ninth-index : Room 9 (n - f) at room
+  ninth-index = rw e (x .fields)
+
+  pub ninth-number : Small 1_000 ((n - f) % 4 + 1) (1 + length (decimal ((n - f) % 4 + 1))) at room
+  unfolding table tableRow
+  ninth-number = deep-number ninth-index ninth-deep
+
+  module _ {d l : List ℕ} {a : ℕ} (p : Wrote d at l a (45 ∷ decimal ((n - f) % 4 + 1))) where
+    pub ninth-room : Room 8 ((n - f) / 4) a room
+    unfolding table tableRow
+    ninth-room = deep-room ninth-index ninth-deep p
+
+    pub ninth-wrote : {g : List ℕ} {r : ℕ} → Wrote l a g r (behind (indexFields 8 ((n - f) / 4))) → Wrote d at g r (behind (indexFields 9 (n - first 9)))
+    unfolding table tableRow
+    ninth-wrote q = rw e at (deep-wrote ninth-index ninth-deep p q)
 
 -- ---- the label of a sheet: the first number into 16 bytes, and the fields behind it
 

@@ -96,6 +96,17 @@ fn put_sheet(s: u32, sheet: u32, out: &mut [u8], at: usize) -> usize
     put_fields(s, sheet - first, out, at)
 }
 
+// The same of a sheet of the ninth scale: the number in its parent by hand, and the parent's fields, since the compiler leaves a loop of three
+// turns as it is.
+fn put_ninth(sheet: u32, out: &mut [u8], at: usize) -> usize
+    requires { ⌜ SheetRoom 9 sheet at (length (now out)) ⌝ }
+    ensures { λ r. ⌜ Wrote (now (out .entry)) at (now (out .exit)) r (behind (indexFields 9 (sheet - first 9))) ⌝ }
+{
+    let i = sheet - Scale(9).first();
+    let a = put_field(i % 4 + 1, out, at);
+    put_fields(8, i / 4, out, a)
+}
+
 // Each scale has an arm of its own, so that a compiled program divides by numbers that it knows.
 fn put_by_scale(s: u32, sheet: u32, out: &mut [u8], at: usize) -> usize
     requires { ⌜ SheetRoom s sheet at (length (now out)) ⌝ }
@@ -110,7 +121,7 @@ fn put_by_scale(s: u32, sheet: u32, out: &mut [u8], at: usize) -> usize
         6 => put_sheet(6, sheet, out, at),
         7 => put_sheet(7, sheet, out, at),
         8 => put_sheet(8, sheet, out, at),
-        _ => put_sheet(9, sheet, out, at),
+        _ => put_ninth(sheet, out, at),
     }
 }
 

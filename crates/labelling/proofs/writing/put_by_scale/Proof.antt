@@ -42,4 +42,4 @@ put-by-scale-spec =
     (λ c. search needs)
     (λ c. let p = c .before .before in let m = p .before .before in arm-wrote (m .match .keys8) (m .before .before .args .sheet) (p .put-sheet8 .ensures))
     (λ c. search needs)
-    (λ c. let p = c .before .before in let m = p .before .before in arm-wrote (ninth m) (m .before .before .args .sheet) (p .put-sheet9 .ensures)))
+    (λ c. let p = c .before .before in let m = p .before .before in arm-wrote (ninth m) (m .before .before .args .sheet) (p .put-ninth .ensures)))
