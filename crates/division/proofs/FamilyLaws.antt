@@ -5,8 +5,8 @@ use native.Mathlib.Nat.{mod-lt, mul-pos, mul-add, mul-comm, mul-assoc, mul-le-mu
 use native.Mathlib.Omega.{arith}
 use Rattle.division.specs.declared.Place.{Place}
 use Rattle.division.specs.declared.table.Row.{Row}
-use Rattle.division.specs.Table.{Made, ofArea, ofScale, table, tableRow, rowsOf, columnsOf, made, rows, columns, parentScale, side, parts, sheets, codeRow}
-use Rattle.division.specs.Sheet.{numberIn, parentPlace, childPlace, areaIndex, areaPlace, partIndex, indexAt, placeAt}
+use Rattle.division.specs.Table.{Made, ofArea, ofScale, table, tableRow, rowsOf, columnsOf, made, rows, columns, parentScale, side, parts, sheets, first, codeRow}
+use Rattle.division.specs.Sheet.{numberIn, parentPlace, childPlace, areaIndex, areaPlace, partIndex, indexAt, placeAt, sheetOf}
 use Rattle.division.specs.Given.{IsScale, OnGrid, Indexed, Parted, PartPlace}
 use Rattle.division.proofs.MadeLaws.{Sound, On, quot, number-few, sheets-parts, on-parent, on-place, left-one, left-few}
 use Rattle.division.proofs.TableLaws.{grown, rules}
@@ -105,11 +105,6 @@ module _ {s : ℕ} (h : IsScale s) (e : parentScale s ≡ 0 → ⊥) where
     pub deep-room : PartPlace (side s) (placeAt (made (parentScale s)) (i / parts s)) (i % parts s + 1)
     deep-room = part-place (placeAt (made (parentScale s)) (i / parts s)) (i % parts s + 1) parent-place-on (left-one (side s) i (parted .some)) (left-few (side s) i (parted .some))
 
--- the ninth is such a scale
-pub ninth-deep : parentScale 9 ≡ 0 → ⊥
-unfolding table tableRow
-ninth-deep e = omega arith
-
 -- ---- the index of a place, parent by parent: `index` is what the parts so far make, and `each` how many sheets one at `up` has
 
 pub record Climb (s : ℕ) (p : Place) (t : Row) (at : Place) (index each : ℕ) : Type 0 where
@@ -185,6 +180,28 @@ module _ {s : ℕ} {p : Place} {t : Row} {at : Place} {index each : ℕ} (c : Cl
         all = rw (c .row) (sheets-by (c .on .scale) deep-parent (sheets s) each (c .all));
         whole = rw (b, number-is, c .row) parts-whole;
       }
+
+-- ---- the ninth scale, which is made from the eighth in 2 × 2
+
+pub ninth-deep : parentScale 9 ≡ 0 → ⊥
+unfolding table tableRow
+ninth-deep e = omega arith
+
+module _ {p : Place} (o : OnGrid 9 p) where
+  pub ninth-up : OnGrid 8 (parentPlace 2 p)
+  unfolding table tableRow
+  ninth-up = parent-on (o .scale) ninth-deep p o
+
+  ninth-index : indexAt (made 9) p ≡ indexAt (made 8) (parentPlace 2 p) * 4 + (numberIn 2 p - 1)
+  unfolding table tableRow
+  ninth-index = deep-index (o .scale) ninth-deep p o
+
+  pub ninth-sheet : {number f index : ℕ} {up : Place} → number ≡ numberIn 2 p → up ≡ parentPlace 2 p → f ≡ first 9 → index ≡ indexAt (made 8) up
+      → f + index * 4 + (number - 1) ≡ sheetOf 9 p
+  ninth-sheet a b c d = rw (a, c, d, b) (omega (arith, ninth-index))
+
+  pub ninth-few : sheetOf 9 p < 7_953_174
+  ninth-few = omega (arith, index-few o, rules (o .scale) .low)
 
 -- ---- sums of a part stay small
 

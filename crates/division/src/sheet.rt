@@ -190,6 +190,22 @@ fn number_under(s: u32, e: i64, n: i64) -> u32
     )
 }
 
+// The same of the ninth scale: the number in the parent by hand, and the parent's index. A loop of three turns the compiler leaves as it is.
+fn ninth_under(e: i64, n: i64) -> u32
+    requires { ⌜ Inside 9 e n ⌝ }
+    ensures { λ r. ⌜ r ≡ sheetUnder 9 e n ⌝ }
+{
+    let row = row_at(9, n);
+    let column = column_at(9, e);
+    let p = Place {
+        row: row,
+        column: column,
+    };
+    let j = number_in(2, p) - 1;
+    let up = parent_place(2, p);
+    Scale(9).first() + index_of(8, up) * 4 + j
+}
+
 // Each scale has an arm of its own, so that a compiled program divides by numbers that it knows.
 fn number_by_scale(s: u32, e: i64, n: i64) -> u32
     requires { ⌜ Inside s e n ⌝ }
@@ -204,7 +220,7 @@ fn number_by_scale(s: u32, e: i64, n: i64) -> u32
         6 => number_under(6, e, n),
         7 => number_under(7, e, n),
         8 => number_under(8, e, n),
-        _ => number_under(9, e, n),
+        _ => ninth_under(e, n),
     }
 }
 

@@ -33,4 +33,4 @@ number-by-scale-spec =
     (λ c. let m = c .before in arm-under (m .match .keys6) (m .before .fits .e) (m .before .fits .n) (c .number-under6 .ensures))
     (λ c. let m = c .before in arm-under (m .match .keys7) (m .before .fits .e) (m .before .fits .n) (c .number-under7 .ensures))
     (λ c. let m = c .before in arm-under (m .match .keys8) (m .before .fits .e) (m .before .fits .n) (c .number-under8 .ensures))
-    (λ c. let m = c .before in arm-under (ninth m) (m .before .fits .e) (m .before .fits .n) (c .number-under9 .ensures)))
+    (λ c. let m = c .before in arm-under (ninth m) (m .before .fits .e) (m .before .fits .n) (c .ninth-under .ensures)))
