@@ -65,7 +65,8 @@ fn put_four(v: u64, out: &mut [u8], at: usize) -> usize
     at + 4
 }
 
-// A number of at most two digits, of at most four, and of at most eight.
+// A number of at most two digits, of at most four, and of at most eight. The last is for a sheet's number alone, so that the compiler can
+// set it into its only caller.
 fn put_two(v: u64, out: &mut [u8], at: usize) -> usize
     requires { ⌜ Small 100 v (length (decimal v)) at (length (now out)) ⌝ }
     ensures { λ r. ⌜ Wrote (now (out .entry)) at (now (out .exit)) r (decimal v) ⌝ }
@@ -100,26 +101,31 @@ fn put_long(v: u64, out: &mut [u8], at: usize) -> usize
 }
 
 // A number in decimal: what stands before its last four digits, and these behind it.
-fn put_huge(n: u64, out: &mut [u8], at: usize) -> usize
+fn put_any(n: u64, out: &mut [u8], at: usize) -> usize
     requires { ⌜ at + length (decimal n) ≤ length (now out) ⌝ }
     ensures { λ r. ⌜ Wrote (now (out .entry)) at (now (out .exit)) r (decimal n) ⌝ }
 {
-    if n < 100_000_000 {
-        return put_long(n, out, at);
+    if n < 10_000 {
+        return put_short(n, out, at);
     }
-    let a = put_huge(n / 10_000, out, at);
+    let a = put_any(n / 10_000, out, at);
     put_four(n % 10_000, out, a)
 }
 
-// The same: a number of at most eight digits, as most are, is put with no call of a function that calls itself.
+// The same, for a line's number: one of five to eight digits, as in a long catalogue most are, is put with no call of a function that calls
+// itself.
 fn put_number(n: u64, out: &mut [u8], at: usize) -> usize
     requires { ⌜ at + length (decimal n) ≤ length (now out) ⌝ }
     ensures { λ r. ⌜ Wrote (now (out .entry)) at (now (out .exit)) r (decimal n) ⌝ }
 {
-    if n < 100_000_000 {
-        return put_long(n, out, at);
+    if n < 10_000 {
+        return put_any(n, out, at);
     }
-    put_huge(n, out, at)
+    if 99_999_999 < n {
+        return put_any(n, out, at);
+    }
+    let a = put_short(n / 10_000, out, at);
+    put_four(n % 10_000, out, a)
 }
 
 // A number behind a space.
@@ -128,7 +134,7 @@ fn put_spaced(n: u64, out: &mut [u8], at: usize) -> usize
     ensures { λ r. ⌜ Wrote (now (out .entry)) at (now (out .exit)) r (32 ∷ decimal n) ⌝ }
 {
     let a = put_byte(b' ', out, at);
-    put_number(n, out, a)
+    put_any(n, out, a)
 }
 
 // So many hundred metres, in metres: four digits, and two zeros.
