@@ -1,4 +1,5 @@
 pub mod LineLaws
+pub mod NameLaws
 pub mod GroundLaws
 pub mod PartLaws
 pub mod LineTheorems

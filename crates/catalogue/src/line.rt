@@ -65,12 +65,12 @@ fn is_name(name: &[u8]) -> bool
     (name[0] != b' ') & (name[last] != b' ')
 }
 
-// A sheet with a name behind its label. Both tests stand before the refusals, which keep the paper's order: 17, then 16.
+// A sheet with a name behind its label. The sheets of scales 1 to 6 are those before the seventh's first, and a number that is no sheet has
+// no scale. Both tests stand before the refusals, which keep the paper's order: 17, then 16.
 fn with_name(sheet: u32, name: &[u8]) -> Found
     ensures { λ r. ⌜ sheetPaper r ≡ withName (now (name .entry)) sheet ⌝ }
 {
-    let s = Scale::of(sheet).0;
-    let scaled = s <= 6;
+    let scaled = (sheet < Scale(7).first()) | (Scale::LAST_SHEET < sheet);
     let formed = is_name(name);
     if !scaled {
         return Found::Refused(Refusal::NameScale);
