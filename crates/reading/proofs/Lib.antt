@@ -3,3 +3,4 @@ pub mod ScanLaws
 pub mod ReckonLaws
 pub mod HeldLaws
 pub mod FrontLaws
+pub mod AnswerLaws
