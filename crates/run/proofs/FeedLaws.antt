@@ -10,13 +10,13 @@ use native.Mathlib.Omega.{arith}
 use borrow.Author.Tests.{eqb-true, eqb-false, le-leb}
 use lib.Dec.{eqb, leb}
 use lib.ListN.{length, getD, take, drop, length-append, length-take, length-drop}
-use lib.Seq.{take-at, drop-append-add, drop-drop, length-take-le}
+use lib.Seq.{take-at, take-all, drop-append-add, drop-drop, length-take-le}
 use Rattle.refusal.specs.declared.Refusal.{Refusal}
 use Rattle.refusal.specs.Paper.{answer, isAnswer, counted, roomAfter}
 use Rattle.refusal.specs.Numbers.{onPaper}
 use Rattle.refusal.specs.Given.{Wrote}
 use Rattle.refusal.proofs.PaperLaws.{same-answer, no-answer}
-use Rattle.refusal.proofs.WroteLaws.{then, same-long, wrote-none, wrote-part}
+use Rattle.refusal.proofs.WroteLaws.{then, same-long, wrote-none, wrote-part, rest-is}
 use Rattle.label.specs.Text.{join}
 use Rattle.label.proofs.SplitLaws.{Free, split-piece, split-last, join-split}
 use Rattle.rows.specs.Row.{outputLine, layRow}
@@ -227,3 +227,11 @@ last-empty n (b ∷ line) e = absurd (omega arith)
 pub last-some : (n : ℕ) (line : List ℕ) → (length line ≡ 0 → ⊥) → outputFrom n (lineOf line) ≡ outputLine n line
 last-some n [] e = absurd (e refl)
 last-some n (b ∷ line) e = output-one n (b ∷ line)
+
+-- a whole block, of which nothing was done before, has its row as one line
+pub whole-row : (block : List ℕ) (number : ℕ) {d o e : List ℕ} {a at i size r : ℕ} → (o ≡ d) × (a ≡ 0) × (at ≡ 0) × (i ≡ 0) → size ≡ length (drop a block) → Wrote o at e r (outputLine (number + i) (take size (take (length block - a) (drop a block)))) → Wrote d 0 e r (outputLine number block)
+whole-row block number {a = a} {i = i} {size = size} b q w =
+    let all : drop a block ≡ block = rw (b .1) in
+    let line : take size (take (length block - a) (drop a block)) ≡ block = ap (take size) (rest-is block a) ∙ take-all size (drop a block) (omega arith) ∙ all in
+    let same : number + i ≡ number = omega (arith, b .3) in
+    rw (b .0, b .2, line, same) at w

@@ -1,10 +1,10 @@
 // A run of the program, on slices: it begins with `begin` and goes on by `turn` until it is over, and what a turn has put into the room is
 // written before the next.
 use crate::feed::feed;
-use crate::feed::put_row;
+use crate::feed::put_whole;
 use refusal::lay;
 ghost use mathlib.Core.Path.{_≡_};
-ghost use Prim.Native.Nat.{_+_, _≤_, min};
+ghost use Prim.Native.Nat.{_+_, _≤_, _<_, _^_, min};
 ghost use lib.ListN.{length, take};
 ghost use lib.Seq.{slice};
 ghost use Rattle.refusal.specs.Paper.{answer, roomAfter};
@@ -62,13 +62,14 @@ fn reach(end: usize, got: usize, size: usize) -> usize
 
 // The row of a last line that no line feed ends; nothing where there is no line.
 fn last(line: &[u8], number: u64, out: &mut [u8]) -> usize
+    requires { ⌜ number + length (now line) < 2 ^ 64 ⌝ }
     requires { ⌜ 64 ≤ length (now out) ⌝ }
     ensures { λ r. ⌜ Wrote (now (out .entry)) 0 (now (out .exit)) r (outputFrom number (lineOf (now (line .entry)))) ⌝ }
 {
     if line.len() == 0 {
         return 0;
     }
-    put_row(line, number, out, 0)
+    put_whole(line, number, out)
 }
 
 // Moves what is left of a block, from a up to n, to its front: at most 66 bytes, since no more of a line decide its answer. Gives how

@@ -11,8 +11,8 @@ returns c =
     let s = c .before .before .before .args in
     rw (last-empty (s .number) (s .line .now) (c .if1 .taken)) (wrote-none (s .out .now) 0 (omega arith))
 
-put-row-requires : tie.Need-put-row-requires
-put-row-requires c κs = search needs
+put-whole-requires : tie.Need-put-whole-requires
+put-whole-requires c κs = search needs
 
 same-length : tie.Need-same-length
 same-length c = search needs
@@ -21,7 +21,7 @@ returns-2 : tie.Need-returns-2
 returns-2 c =
     let k = c .before .before .before .before in
     let s = k .before .before .before .args in
-    rw (last-some (s .number) (s .line .now) (k .if1 .left)) (c .before .before .put-row .ensures .0)
+    rw (last-some (s .number) (s .line .now) (k .if1 .left)) (c .before .before .put-whole .ensures)
 
 pub last-spec : {M : Type 1} → statement M
-last-spec = tie.close (tie.spec returns put-row-requires same-length returns-2)
+last-spec = tie.close (tie.spec returns put-whole-requires same-length returns-2)

@@ -50,7 +50,9 @@ part-last-end : tie.Need-part-last-end
 part-last-end c = search needs
 
 last-requires : tie.Need-last-requires
-last-requires c κs = enough (c .before .before .before .before .before .before .before) .row
+last-requires c κs =
+    let l = c .before .before .before .before .before in
+    (omega (arith, enough (l .before .before) .few, part-few (l .before .before .before .before .before .before .args .buf .now) (l .least .result) (l .before .reach .result)), enough (l .before .before) .row)
 
 same-length : tie.Need-same-length
 same-length c = search needs
