@@ -12,24 +12,10 @@ use Rattle.division.specs.declared.Place.{Place}
 use Rattle.division.specs.Table.{table, tableRow, width, height}
 use Rattle.division.specs.Grid.{millimetres, westOf, northOf, edgesOf}
 use Rattle.division.specs.Sheet.{isSheet, groundOf, cornersOf}
-use Rattle.division.specs.Given.{IsScale, OnGrid}
+use Rattle.division.specs.Given.{IsScale, OnGrid, Hundreds, InHundreds}
 use Rattle.division.proofs.TableLaws.{Each, each}
 use Rattle.division.proofs.NumberLaws.{on-grid}
 use Rattle.division.proofs.GridLaws.{wide-in, high-in, north-is}
-
--- an edge in millimetres that is so many hundred metres, from low to high
-pub record Hundreds (low high : ℕ) (x : ℤ) : Type 0 where
-  pub count : ℕ
-  pub is : x ≡ pos (count * 100_000)
-  pub from : low ≤ count
-  pub to : count ≤ high
-
--- four of them within the area: E from 200 000 m to 800 000 m, N from 4 570 000 m to 5 170 000 m
-pub record InHundreds (e : Edges) : Type 0 where
-  pub west : Hundreds 2_000 8_000 (e .west)
-  pub east : Hundreds 2_000 8_000 (e .east)
-  pub south : Hundreds 45_700 51_700 (e .south)
-  pub north : Hundreds 45_700 51_700 (e .north)
 
 -- the sizes of a scale
 record Sized (s : ℕ) : Type 0 where

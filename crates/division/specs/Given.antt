@@ -2,7 +2,7 @@
 use Prim.Native.Nat.{ℕ, _+_, _-_, _*_, _/_, _≤_, _<_}
 use mathlib.Core.Path.{_≡_}
 use mathlib.Core.Bool.{true}
-use lib.IntN.{ℤ}
+use lib.IntN.{ℤ, pos}
 use Rattle.division.specs.declared.Edges.{Edges}
 use Rattle.division.specs.declared.Place.{Place}
 use Rattle.division.specs.declared.cover.Span.{Span}
@@ -65,3 +65,17 @@ pub record BlockRoom (s : ℕ) (down across : Span) (room : ℕ) : Type 0 where
   pub in-columns : across .first + across .count ≤ columns s
   pub few : down .count * across .count ≤ 4_096
   pub fits : down .count * across .count ≤ room
+
+-- an edge in millimetres that is so many hundred metres, from low to high
+pub record Hundreds (low high : ℕ) (x : ℤ) : Type 0 where
+  pub count : ℕ
+  pub is : x ≡ pos (count * 100_000)
+  pub from : low ≤ count
+  pub to : count ≤ high
+
+-- four of them within the area: E from 200 000 m to 800 000 m, N from 4 570 000 m to 5 170 000 m
+pub record InHundreds (e : Edges) : Type 0 where
+  pub west : Hundreds 2_000 8_000 (e .west)
+  pub east : Hundreds 2_000 8_000 (e .east)
+  pub south : Hundreds 45_700 51_700 (e .south)
+  pub north : Hundreds 45_700 51_700 (e .north)

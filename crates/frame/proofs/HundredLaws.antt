@@ -10,8 +10,9 @@ use Rattle.refusal.specs.Paper.{answer}
 use Rattle.refusal.proofs.PaperLaws.{passed}
 use Rattle.division.specs.declared.Edges.{Edges}
 use Rattle.division.specs.Sheet.{isSheet, groundOf, cornersOf}
+use Rattle.division.specs.Given as division
 use Rattle.division.proofs.TestLaws.{returned}
-use Rattle.division.proofs.MetreLaws as division
+use Rattle.division.proofs.MetreLaws as laws
 use Rattle.frame.specs.Metres.{metres, half}
 use Rattle.frame.specs.Given.{Hundreds, AllHundreds}
 use Rattle.frame.proofs.FloatLaws.{float, middle-exact}
@@ -53,4 +54,4 @@ all-hundreds g = (so (omega arith) (g .west), so (omega arith) (g .east), so (om
 
 pub corners-hundreds : (sheet : ℕ) {ground : Edges} → answer ground ≡ cornersOf sheet → AllHundreds ground
 unfolding cornersOf
-corners-hundreds sheet q = all-hundreds (division.corners-hundreds sheet (passed 3 (isSheet sheet) (answer (groundOf sheet)) (sym q) .0) q)
+corners-hundreds sheet q = all-hundreds (laws.corners-hundreds sheet (passed 3 (isSheet sheet) (answer (groundOf sheet)) (sym q) .0) q)

@@ -12,11 +12,12 @@ ghost use lib.ListN.{length};
 ghost use Rattle.refusal.specs.Paper.{answer, counted, roomAfter};
 ghost use Rattle.refusal.specs.Numbers.{onPaper, laidPaper};
 ghost use Rattle.refusal.specs.Given.{Wrote};
+ghost use Rattle.division.specs.Given.{Hundreds, InHundreds};
 ghost use Rattle.label.specs.Text.{decimal};
 ghost use Rattle.label.specs.Given.{Small};
 ghost use Rattle.catalogue.specs.Line.{readLine};
 ghost use Rattle.rows.specs.Row.{metres, frameWords, words, layRow};
-ghost use Rattle.rows.specs.Given.{spaced, pair, bytesIn, Hundreds, InHundreds};
+ghost use Rattle.rows.specs.Given.{spaced, pair, bytesIn};
 
 // Each of the functions that put something into room gives the place behind it.
 fn put_byte(b: u8, out: &mut [u8], at: usize) -> usize

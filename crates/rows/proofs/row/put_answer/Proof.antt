@@ -4,10 +4,10 @@ use mathlib.Core.Bool.{true}
 use native.Mathlib.Omega.{arith}
 use borrow.Author.Needs.{needs}
 use Rattle.division.specs.Sheet.{isSheet}
+use Rattle.division.proofs.MetreLaws.{ground-hundreds}
 use Rattle.reading.specs.Front.{frontPaper}
 use Rattle.catalogue.proofs.LineTheorems.{line-sheet}
 use Rattle.catalogue.proofs.GroundLaws.{Lies, lies, line-refused}
-use Rattle.rows.proofs.HundredLaws.{ground-in-hundreds}
 use Rattle.rows.proofs.WordLaws.{sheet-few}
 use Rattle.rows.proofs.row.put_answer.Statement.{statement}
 use Rattle.rows.proofs.row.put_answer.Tie as tie
@@ -35,7 +35,7 @@ put-ground-requires : tie.Need-put-ground-requires
 put-ground-requires c κs =
     let f = c .before .before in
     let n = f .front .given .0 .0 .sheet in
-    (sheet-few n (sheet f), (rw (told f .corners) (ground-in-hundreds n (sheet f)), search needs))
+    (sheet-few n (sheet f), (rw (told f .corners) (ground-hundreds n (sheet f)), search needs))
 
 same-length : tie.Need-same-length
 same-length c = search needs
