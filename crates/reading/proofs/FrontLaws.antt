@@ -17,7 +17,7 @@ use Rattle.division.specs.Words.{_<?_, _=?_, between}
 use Rattle.division.proofs.TestLaws.{both, between-in, le-or-less}
 use Rattle.label.specs.Text.{every}
 use Rattle.label.specs.Label.{isLabelByte, wellFormed, formed, numbersIn, sheetNamed, readLabel}
-use Rattle.label.proofs.PieceLaws.{piece, piece-none, piece-cons, piece-take, take-piece}
+use Rattle.label.proofs.PieceLaws.{piece, piece-none, piece-cons, piece-take}
 use Rattle.label.proofs.PlaceLaws.{cannot}
 use Rattle.label.proofs.FormLaws.{long-form}
 use Rattle.reading.specs.declared.numbers.Scanned.{Scanned}

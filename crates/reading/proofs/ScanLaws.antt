@@ -1,8 +1,8 @@
 -- The loop of `numbers_in`: what holds where a field begins, and what each way through a turn does. Assumes nothing.
 use mathlib.Core.Path.{_≡_, refl, sym, ap, _∙_}
 use mathlib.Core.Logic.{⊎-elim}
-use mathlib.Core.Bool.{Bool, true, false, cond, _&&_, and-false}
-use mathlib.Core.List.{List, [], _∷_, _++_, map, append-nil, append-assoc}
+use mathlib.Core.Bool.{Bool, true, false, and-false}
+use mathlib.Core.List.{List, [], _∷_, _++_, map, append-nil}
 use Prim.Native.Nat.{ℕ, suc, _+_, _-_, _*_, _≤_, _<_}
 use native.Mathlib.Nat.{add-zero}
 use native.Mathlib.Numerals.{add-one}
@@ -15,8 +15,7 @@ use Rattle.division.proofs.TestLaws.{in-between, between-in, le-or-less}
 use Rattle.label.specs.Text.{every, split, value}
 use Rattle.label.specs.Label.{isLabelByte, isField, wellFormed}
 use Rattle.reading.specs.declared.numbers.Run.{Run}
-use Rattle.reading.specs.declared.numbers.Scanned.{Scanned}
-use Rattle.reading.specs.Given.{isDigit, beginning, fieldFrom, numbersOf, Held, IsScanned}
+use Rattle.reading.specs.Given.{isDigit, beginning, fieldFrom, numbersOf, IsScanned}
 use Rattle.label.proofs.SplitLaws.{split-last, split-piece}
 use Rattle.label.proofs.SpellLaws.{Digits, digits-free}
 use Rattle.reading.proofs.DigitLaws.{begins-on, begins-off, begins-none, on-at}

@@ -2,7 +2,7 @@
 use mathlib.Core.Path.{_≡_, sym, ap, _∙_}
 use native.Mathlib.Omega.{arith}
 use borrow.Author.Needs.{needs}
-use lib.ListN.{length, take, length-take}
+use lib.ListN.{take, length-take}
 use Rattle.label.specs.Label.{formed}
 use Rattle.label.proofs.PieceLaws.{piece, take-piece, piece-within}
 use Rattle.label.proofs.FormLaws.{long-form}

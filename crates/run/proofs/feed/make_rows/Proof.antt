@@ -8,7 +8,7 @@ use native.Mathlib.Omega.{arith}
 use borrow.Author.Needs.{needs}
 use borrow.Author.Tests.{eqb-true, eqb-false, not-true}
 use lib.ListN.{length, getD, take, drop, length-drop}
-use lib.Seq.{take-all, length-take-le}
+use lib.Seq.{length-take-le}
 use Rattle.refusal.proofs.WroteLaws.{rest-is}
 use Rattle.division.specs.Words.{_=?_}
 use Rattle.division.proofs.TestLaws.{both}
