@@ -7,17 +7,17 @@ use Prim.Native.Nat.{ℕ, _+_, _-_, _/_, _%_, _≤_, _<_}
 use native.Mathlib.Nat.{mul-pos, mod-lt, add-zero}
 use native.Mathlib.Omega.{arith}
 use borrow.Author.Tests.{le-leb, lt-leb}
-use lib.ListN.{length, set, replicate}
+use lib.ListN.{length, set}
 use lib.Seq.{set-set}
 use mir.Val.{boolByte}
 use Rattle.refusal.specs.Given.{Wrote}
 use Rattle.division.specs.declared.table.Row.{Row}
 use Rattle.division.specs.Words.{_≤?_}
 use Rattle.division.specs.Table.{Made, table, tableRow, made, rows, columns, parentScale, side, parts, first, codeRow}
-use Rattle.division.specs.Sheet.{placeAt, isSheet, scaleOf, indexOf}
+use Rattle.division.specs.Sheet.{placeAt, isSheet, scaleOf}
 use Rattle.division.proofs.TestLaws.{le-or-less}
 use Rattle.division.proofs.MadeLaws.{Sound, quot, left-few}
-use Rattle.division.proofs.TableLaws.{rules}
+use Rattle.division.proofs.TableLaws.{Each, none-of-eight, rules}
 use Rattle.division.proofs.NumberLaws.{ranged, indexed}
 use Rattle.division.proofs.FamilyLaws.{top, deep, some-columns, parted, above, parent-indexed, ninth-deep}
 use Rattle.label.specs.Text.{decimal}
@@ -157,47 +157,49 @@ module _ {s i : ℕ} {d : List ℕ} {at : ℕ} {row : Row} {index : ℕ} {f : Li
           rest = rw (g .is-row) (λ x. g .rest (deep-wrote (g .room) here-deep q x));
         }
 
--- ---- the fields of a sheet of a scale: the arm that is taken is the scale's own
+-- ---- the fields of an index of the ninth scale, which is made from the eighth in 2 × 2: the number in the parent, and the parent's fields
 
-module _ {s t : ℕ} (e : s ≡ t) (n : ℕ) where
-  pub arm-room : {at room : ℕ} → SheetRoom s n at room → SheetRoom t n at room
-  arm-room {at} {room} x = subst (λ (u : ℕ). SheetRoom u n at room) e x
-
-  pub arm-wrote : {d f : List ℕ} {at r : ℕ} → Wrote d at f r (behind (indexFields t (n - first t))) → Wrote d at f r (behind (indexFields s (n - first s)))
-  arm-wrote {d} {f} {at} {r} w = subst (λ (u : ℕ). Wrote d at f r (behind (indexFields u (n - first u)))) (sym e) w
-
--- ---- the fields of a sheet of the ninth scale, which is made from the eighth in 2 × 2: the number in the parent, and the parent's fields
-
-module _ {n at room f : ℕ} (x : SheetRoom 9 n at room) (e : f ≡ first 9) where
-  ninth-index : Room 9 (n - f) at room
-  ninth-index = rw e (x .fields)
-
-  pub ninth-number : Small 1_000 ((n - f) % 4 + 1) (1 + length (decimal ((n - f) % 4 + 1))) at room
+module _ {i at room : ℕ} (x : Room 9 i at room) where
+  pub ninth-number : Small 1_000 (i % 4 + 1) (1 + length (decimal (i % 4 + 1))) at room
   unfolding table tableRow
-  ninth-number = deep-number ninth-index ninth-deep
+  ninth-number = deep-number x ninth-deep
 
-  module _ {d l : List ℕ} {a : ℕ} (p : Wrote d at l a (45 ∷ decimal ((n - f) % 4 + 1))) where
-    pub ninth-room : Room 8 ((n - f) / 4) a room
+  module _ {d l : List ℕ} {a : ℕ} (p : Wrote d at l a (45 ∷ decimal (i % 4 + 1))) where
+    pub ninth-room : Room 8 (i / 4) a room
     unfolding table tableRow
-    ninth-room = deep-room ninth-index ninth-deep p
+    ninth-room = deep-room x ninth-deep p
 
-    pub ninth-wrote : {g : List ℕ} {r : ℕ} → Wrote l a g r (behind (indexFields 8 ((n - f) / 4))) → Wrote d at g r (behind (indexFields 9 (n - first 9)))
+    pub ninth-wrote : {g : List ℕ} {r : ℕ} → Wrote l a g r (behind (indexFields 8 (i / 4))) → Wrote d at g r (behind (indexFields 9 i))
     unfolding table tableRow
-    ninth-wrote q = rw e at (deep-wrote ninth-index ninth-deep p q)
+    ninth-wrote q = deep-wrote x ninth-deep p q
 
--- ---- the label of a sheet: the first number into 16 bytes, and the fields behind it
+-- ---- the label of a sheet: the first number of its scale, and the fields behind it
 
-module _ (n : ℕ) (h : isSheet n ≡ true) where
-  pub mark-room : Small 1_000 (markOf (scaleOf n)) (length (decimal (markOf (scaleOf n)))) 0 16
-  mark-room = record { few = sizes (ranged n h .scale) .mark-few; fits = omega (arith, label-long n h, label-high n h) }
+module _ {s n : ℕ} (d : List ℕ) (x : SheetRoom s n (length d)) where
+  pub mark-room : Small 1_000 (markOf s) (length (decimal (markOf s))) 0 (length d)
+  mark-room =
+      rw (x .scale)
+      (record { few = sizes (ranged n (x .sheet) .scale) .mark-few; fits = omega (arith, x .fits, label-long n (x .sheet), label-high n (x .sheet)) })
 
-  module _ {e : List ℕ} {a : ℕ} (p : Wrote (replicate 16 0) 0 e a (decimal (markOf (scaleOf n)))) where
-    pub fields-room : SheetRoom (scaleOf n) n a (length e)
-    fields-room =
-        record {
-          from = ranged n h .low;
-          fields = record { indexed = indexed n h; fits = omega (arith, p .end, same-long p, label-long n h, label-high n h) };
-        }
+  module _ {f : ℕ} (is : f ≡ first s) where
+    pub from-first : f ≤ n
+    from-first = rw (is, x .scale) (ranged n (x .sheet) .low)
 
-    pub label-wrote : {f : List ℕ} {r : ℕ} → Wrote e a f r (behind (indexFields (scaleOf n) (indexOf n))) → Wrote (replicate 16 0) 0 f r (labelOf n)
-    label-wrote q = rw (label-is n) (then p q)
+    module _ {e : List ℕ} {a : ℕ} (p : Wrote d 0 e a (decimal (markOf s))) where
+      pub fields-room : Room s (n - f) a (length e)
+      fields-room =
+          let q : Wrote d 0 e a (decimal (markOf (scaleOf n))) = rw (x .scale) at p in
+          rw (is, x .scale)
+          (record { indexed = indexed n (x .sheet); fits = omega (arith, q .end, same-long q, x .fits, label-long n (x .sheet), label-high n (x .sheet)) })
+
+      pub label-wrote : {l : List ℕ} {r : ℕ} → Wrote e a l r (behind (indexFields s (n - f))) → Wrote d 0 l r (labelOf n)
+      label-wrote w = rw (label-is n) (then (rw (x .scale) at p) (rw (is, x .scale) at w))
+
+-- 16 bytes are room for the label of any sheet
+pub own-room : {n : ℕ} → isSheet n ≡ true → SheetRoom (scaleOf n) n 16
+own-room h = record { sheet = h; scale = refl; fits = omega arith }
+
+-- a sheet of none of the first eight scales is one of the ninth
+pub last-arm : {t n room : ℕ} → t ≡ scaleOf n → SheetRoom (scaleOf n) n room → Each (λ k. t ≡ k → ⊥) 8 → SheetRoom 9 n room
+last-arm f x others =
+    record { sheet = x .sheet; scale = sym (none-of-eight (rw f (ranged _ (x .sheet) .scale)) others) ∙ f; fits = x .fits }

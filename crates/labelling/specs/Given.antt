@@ -1,8 +1,10 @@
 -- What the inner functions take for granted: the public ones test it first.
-use Prim.Native.Nat.{ℕ, _+_, _-_, _/_, _%_, _≤_, _<_}
+use Prim.Native.Nat.{ℕ, _+_, _/_, _%_, _≤_, _<_}
+use mathlib.Core.Path.{_≡_}
+use mathlib.Core.Bool.{true}
 use mathlib.Core.List.{List, [], _∷_}
 use lib.ListN.{length}
-use Rattle.division.specs.Table.{first}
+use Rattle.division.specs.Sheet.{isSheet, scaleOf}
 use Rattle.division.specs.Given.{Indexed}
 use Rattle.label.specs.Given.{behind, indexFields}
 
@@ -21,7 +23,8 @@ pub record Room (s i at room : ℕ) : Type 0 where
   pub indexed : Indexed s i
   pub fits : at + length (behind (indexFields s i)) ≤ room
 
--- a sheet of a scale, and room for its fields
-pub record SheetRoom (s n at room : ℕ) : Type 0 where
-  pub from : first s ≤ n
-  pub fields : Room s (n - first s) at room
+-- a sheet of a scale, and room for the longest label
+pub record SheetRoom (s n room : ℕ) : Type 0 where
+  pub sheet : isSheet n ≡ true
+  pub scale : s ≡ scaleOf n
+  pub fits : 16 ≤ room

@@ -5,25 +5,17 @@ use refusal::Laid;
 use refusal::Refusal;
 use refusal::lay;
 ghost use mathlib.Core.Path.{_≡_};
-ghost use mathlib.Core.Bool.{true};
 ghost use mathlib.Core.List.{[], _∷_};
-ghost use Prim.Native.Nat.{_+_, _-_, _<_};
-ghost use lib.ListN.{length, replicate};
+ghost use Prim.Native.Nat.{_+_, _<_};
+ghost use lib.ListN.{length};
 ghost use Rattle.refusal.specs.Paper.{counted, roomAfter};
 ghost use Rattle.refusal.specs.Numbers.{laidPaper};
 ghost use Rattle.refusal.specs.Given.{Wrote};
-ghost use Rattle.division.specs.Table.{first};
-ghost use Rattle.division.specs.Sheet.{isSheet};
+ghost use Rattle.division.specs.Sheet.{scaleOf};
 ghost use Rattle.label.specs.Text.{decimal};
 ghost use Rattle.label.specs.Label.{markOf, labelOf, writeLabel, labelLength};
 ghost use Rattle.label.specs.Given.{Small, behind, indexFields};
 ghost use Rattle.labelling.specs.Given.{areaFields, AreaRoom, Room, SheetRoom};
-
-// A label: the longest has 16 bytes.
-pub struct Text {
-    pub bytes: [u8; 16],
-    pub len: usize,
-}
 
 // Each of the functions that put something into room gives the place behind it.
 fn put_byte(b: u8, out: &mut [u8], at: usize) -> usize
@@ -87,44 +79,6 @@ fn put_fields(s: u32, i: u32, out: &mut [u8], at: usize) -> usize
     put_area(t.columns, index, out, a)
 }
 
-// The same of a sheet of the scale, by its number.
-fn put_sheet(s: u32, sheet: u32, out: &mut [u8], at: usize) -> usize
-    requires { ⌜ SheetRoom s sheet at (length (now out)) ⌝ }
-    ensures { λ r. ⌜ Wrote (now (out .entry)) at (now (out .exit)) r (behind (indexFields s (sheet - first s))) ⌝ }
-{
-    let first = Scale(s).first();
-    put_fields(s, sheet - first, out, at)
-}
-
-// The same of a sheet of the ninth scale: the number in its parent by hand, and the parent's fields, since the compiler leaves a loop of three
-// turns as it is.
-fn put_ninth(sheet: u32, out: &mut [u8], at: usize) -> usize
-    requires { ⌜ SheetRoom 9 sheet at (length (now out)) ⌝ }
-    ensures { λ r. ⌜ Wrote (now (out .entry)) at (now (out .exit)) r (behind (indexFields 9 (sheet - first 9))) ⌝ }
-{
-    let i = sheet - Scale(9).first();
-    let a = put_field(i % 4 + 1, out, at);
-    put_fields(8, i / 4, out, a)
-}
-
-// Each scale has an arm of its own, so that a compiled program divides by numbers that it knows.
-fn put_by_scale(s: u32, sheet: u32, out: &mut [u8], at: usize) -> usize
-    requires { ⌜ SheetRoom s sheet at (length (now out)) ⌝ }
-    ensures { λ r. ⌜ Wrote (now (out .entry)) at (now (out .exit)) r (behind (indexFields s (sheet - first s))) ⌝ }
-{
-    match s {
-        1 => put_sheet(1, sheet, out, at),
-        2 => put_sheet(2, sheet, out, at),
-        3 => put_sheet(3, sheet, out, at),
-        4 => put_sheet(4, sheet, out, at),
-        5 => put_sheet(5, sheet, out, at),
-        6 => put_sheet(6, sheet, out, at),
-        7 => put_sheet(7, sheet, out, at),
-        8 => put_sheet(8, sheet, out, at),
-        _ => put_ninth(sheet, out, at),
-    }
-}
-
 // The first number of a scale's labels; of no scale 0.
 fn mark_of(s: u32) -> u32
     ensures { λ r. ⌜ r ≡ markOf s ⌝ }
@@ -143,18 +97,45 @@ fn mark_of(s: u32) -> u32
     }
 }
 
-// The label of a sheet.
-fn text_of(sheet: u32) -> Text
-    requires { ⌜ isSheet sheet ≡ true ⌝ }
-    ensures { λ r. ⌜ Wrote (replicate 16 0) 0 (r .bytes) (r .len) (labelOf sheet) ⌝ }
+// The label of a sheet of the scale: the first number, and the fields behind it.
+fn put_of(s: u32, sheet: u32, out: &mut [u8]) -> usize
+    requires { ⌜ SheetRoom s sheet (length (now out)) ⌝ }
+    ensures { λ r. ⌜ Wrote (now (out .entry)) 0 (now (out .exit)) r (labelOf sheet) ⌝ }
+{
+    let a = put_number(mark_of(s), out, 0);
+    let first = Scale(s).first();
+    put_fields(s, sheet - first, out, a)
+}
+
+// The same of a sheet of the ninth scale: the number in its parent by hand, and the parent's fields, since the compiler leaves a loop of three
+// turns as it is.
+fn put_ninth(sheet: u32, out: &mut [u8]) -> usize
+    requires { ⌜ SheetRoom 9 sheet (length (now out)) ⌝ }
+    ensures { λ r. ⌜ Wrote (now (out .entry)) 0 (now (out .exit)) r (labelOf sheet) ⌝ }
+{
+    let a = put_number(mark_of(9), out, 0);
+    let i = sheet - Scale(9).first();
+    let b = put_field(i % 4 + 1, out, a);
+    put_fields(8, i / 4, out, b)
+}
+
+// The label of a sheet. Each scale has an arm of its own, so that a compiled program knows the first number, and divides by numbers that it
+// knows.
+fn put_label(sheet: u32, out: &mut [u8]) -> usize
+    requires { ⌜ SheetRoom (scaleOf sheet) sheet (length (now out)) ⌝ }
+    ensures { λ r. ⌜ Wrote (now (out .entry)) 0 (now (out .exit)) r (labelOf sheet) ⌝ }
 {
     let s = Scale::of(sheet).0;
-    let mut bytes = [0u8; 16];
-    let a = put_number(mark_of(s), &mut bytes, 0);
-    let len = put_by_scale(s, sheet, &mut bytes, a);
-    Text {
-        bytes: bytes,
-        len: len,
+    match s {
+        1 => put_of(1, sheet, out),
+        2 => put_of(2, sheet, out),
+        3 => put_of(3, sheet, out),
+        4 => put_of(4, sheet, out),
+        5 => put_of(5, sheet, out),
+        6 => put_of(6, sheet, out),
+        7 => put_of(7, sheet, out),
+        8 => put_of(8, sheet, out),
+        _ => put_ninth(sheet, out),
     }
 }
 
@@ -165,8 +146,9 @@ pub fn label_length(sheet: u32) -> Laid
     if !is_sheet(sheet) {
         return Laid::Refused(Refusal::NoSheet);
     }
-    let text = text_of(sheet);
-    Laid::Items(text.len)
+    let mut bytes = [0u8; 16];
+    let len = put_label(sheet, &mut bytes);
+    Laid::Items(len)
 }
 
 // Writes the label of a sheet into lent room.
@@ -177,8 +159,7 @@ pub fn write_label(sheet: u32, room: &mut [u8]) -> Laid
     if !is_sheet(sheet) {
         return Laid::Refused(Refusal::NoSheet);
     }
-    let text = text_of(sheet);
-    let bytes = text.bytes;
-    let len = text.len;
+    let mut bytes = [0u8; 16];
+    let len = put_label(sheet, &mut bytes);
     lay(&bytes[..len], room)
 }

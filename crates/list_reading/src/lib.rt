@@ -146,7 +146,10 @@ fn read_behind(
             if room.len() < count {
                 return refused(Refusal::Room(count), 0);
             }
-            read_entries(kind, times, bytes, from, count, room)
+            match kind {
+                Kind::Sheets => read_entries(Kind::Sheets, times, bytes, from, count, room),
+                Kind::Holdings => read_entries(Kind::Holdings, times, bytes, from, count, room),
+            }
         }
     }
 }

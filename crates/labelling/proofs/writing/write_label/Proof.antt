@@ -1,4 +1,4 @@
--- Past the test it is a sheet, and its label is laid. Assumes nothing.
+-- Past the test it is a sheet, and its label is put into 16 bytes and laid. Assumes nothing.
 use mathlib.Core.Path.{_≡_, refl, sym}
 use mathlib.Core.Bool.{true}
 use native.Mathlib.Omega.{arith}
@@ -8,6 +8,7 @@ use Rattle.refusal.proofs.PaperLaws.{fails, holds}
 use Rattle.refusal.proofs.WroteLaws.{same-long, wrote-taken}
 use Rattle.division.specs.Sheet.{isSheet}
 use Rattle.label.specs.Label.{writeLabel}
+use Rattle.labelling.proofs.WritingLaws.{own-room}
 use Rattle.labelling.proofs.writing.write_label.Statement.{statement}
 use Rattle.labelling.proofs.writing.write_label.Tie as tie
 
@@ -22,14 +23,19 @@ returns c = rw (fails (c .before .is-sheet .ensures) (c .if1 .taken)) (refl, ref
 sheet : (c : tie.Else1) → isSheet (c .before .before .before .args .sheet) ≡ true
 sheet c = holds (c .before .is-sheet .ensures) (c .if1 .left)
 
-text-of-requires : tie.Need-text-of-requires
-text-of-requires c κs = sheet c
+slice-aggregate-put-label : tie.Need-slice-aggregate-put-label
+slice-aggregate-put-label c = search needs
+
+put-label-requires : tie.Need-put-label-requires
+put-label-requires c κs = own-room (sheet (c .before))
 
 array-share-prefix-bytes : tie.Need-array-share-prefix-bytes
-array-share-prefix-bytes c = let w = c .before .text-of .ensures in omega (arith, w .fits, same-long w)
+array-share-prefix-bytes c = search needs
 
 slice-aggregate-lay : tie.Need-slice-aggregate-lay
-slice-aggregate-lay c = let w = c .before .before .text-of .ensures in sym (length-take-le _ _ (omega (arith, w .fits, same-long w)))
+slice-aggregate-lay c =
+    let p = c .before .before .put-label in
+    sym (length-take-le (p .result) (p .last .1 .0) (omega (arith, p .ensures .fits, same-long (p .ensures))))
 
 lay-requires : tie.Need-lay-requires
 lay-requires c κs = search needs
@@ -40,9 +46,9 @@ same-length c = search needs
 returns-2 : tie.Need-returns-2
 unfolding writeLabel
 returns-2 c =
-    let p = c .before .before in
-    let t = p .before .before .before .before in
-    rw (sheet (t .before), ← wrote-taken (t .text-of .ensures)) (p .lay .ensures)
+    let l = c .before .before in
+    let p = l .before .before .before .before in
+    rw (sheet (p .before .before), ← wrote-taken (p .put-label .ensures)) (l .lay .ensures)
 
 pub write-label-spec : {M : Type 1} → statement M
 write-label-spec =
@@ -50,7 +56,8 @@ write-label-spec =
     (tie.spec
     is-sheet-requires
     returns
-    text-of-requires
+    slice-aggregate-put-label
+    put-label-requires
     array-share-prefix-bytes
     slice-aggregate-lay
     lay-requires
