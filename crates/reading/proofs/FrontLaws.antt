@@ -4,25 +4,30 @@ use mathlib.Core.Path.{_≡_, refl, sym, ap, _∙_}
 use mathlib.Core.Logic.{⊎-elim}
 use mathlib.Core.Bool.{Bool, true, false, cond, _&&_, _||_}
 use mathlib.Core.List.{List, [], _∷_}
-use Prim.Native.Nat.{ℕ, zero, suc, _≤_, _<_, min}
+use Prim.Native.Nat.{ℕ, zero, suc, _+_, _≤_, _<_, min}
 use native.Mathlib.Omega.{arith}
 use borrow.Author.Tests.{eq-eqb, ne-eqb, eqb-true, eqb-false, lt-ltb, ltb-true}
 use lib.Dec.{eqb}
 use lib.ListN.{length, getD, take, length-take}
 use lib.Seq.{take-all}
 use Rattle.refusal.specs.declared.Refusal.{Refusal}
+use Rattle.refusal.specs.Paper.{answer}
 use Rattle.refusal.specs.Numbers.{onPaper}
 use Rattle.refusal.proofs.PaperLaws.{asked-on}
 use Rattle.division.specs.Words.{_<?_, _=?_, between}
+use Rattle.division.specs.Table.{first}
+use Rattle.division.specs.Sheet.{groundOf}
 use Rattle.division.proofs.TestLaws.{both, between-in, le-or-less}
 use Rattle.label.specs.Text.{every}
-use Rattle.label.specs.Label.{isLabelByte, wellFormed, formed, numbersIn, sheetNamed, readLabel}
+use Rattle.label.specs.Label.{isLabelByte, wellFormed, formed, numbersIn, readLabel}
 use Rattle.label.proofs.PieceLaws.{piece, piece-none, piece-cons, piece-take}
 use Rattle.label.proofs.PlaceLaws.{cannot}
 use Rattle.label.proofs.FormLaws.{long-form}
+use Rattle.reckoning.specs.declared.Reach.{Reach}
+use Rattle.reckoning.specs.Given.{cornersAt}
 use Rattle.reading.specs.declared.numbers.Scanned.{Scanned}
 use Rattle.reading.specs.Front.{readFront}
-use Rattle.reading.specs.Given.{beginning, numbersOf, IsScanned, frontNamed}
+use Rattle.reading.specs.Given.{beginning, numbersOf, IsScanned, frontAt}
 use Rattle.reading.proofs.DigitLaws.{begins-on, begins-off, begins-none}
 use Rattle.reading.proofs.ScanLaws.{front}
 use Rattle.reading.proofs.HeldLaws.{unformed, well}
@@ -237,6 +242,7 @@ pub front-refused : (line : List ℕ) (why : Refusal) → readLabel (piece 32 li
 unfolding readFront
 front-refused line why e = asked-on why _ (sym e)
 
-pub front-named : (line : List ℕ) (s : ℕ) → readLabel (piece 32 line) ≡ sheetNamed s (piece 32 line) → frontNamed s (piece 32 line) ≡ readFront line
+pub front-sheet : (line : List ℕ) (x : Reach) {end : ℕ} → cornersAt x ≡ groundOf (first (x .scale) + x .index) → end ≡ length (piece 32 line)
+    → answer (first (x .scale) + x .index) ≡ readLabel (piece 32 line) → answer (frontAt x end) ≡ readFront line
 unfolding readFront
-front-named line s e = rw (← e)
+front-sheet line x {end} c l e = rw (← e, c, l)

@@ -1,6 +1,5 @@
 pub mod DigitLaws
 pub mod ScanLaws
-pub mod ReckonLaws
 pub mod HeldLaws
 pub mod FrontLaws
 pub mod AnswerLaws

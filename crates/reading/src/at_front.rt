@@ -2,30 +2,29 @@
 // number need not be taken apart again.
 use crate::Front;
 use crate::Fronted;
-use crate::ground::Reach;
-use crate::ground::Reckoned;
-use crate::ground::ground_from;
-use crate::labels::Named;
 use crate::labels::form_fault;
-use crate::labels::scale_named;
 use crate::numbers::numbers_in;
 use division::Edges;
 use division::table::Scale;
 use fault::piece::piece_end;
 use fault::place::field_start;
+use reckoning::Named;
+use reckoning::Reach;
+use reckoning::sheet_named;
 use refusal::Refusal;
 ghost use mathlib.Core.Path.{_≡_};
 ghost use mathlib.Core.Bool.{false, _||_};
 ghost use mathlib.Core.List.{[]};
 ghost use Prim.Native.Nat.{_+_, _*_, _≤_, min};
 ghost use lib.IntN.{pos};
-ghost use lib.ListN.{length, getD, drop};
+ghost use lib.ListN.{length, getD};
 ghost use Rattle.refusal.specs.Numbers.{onPaper};
 ghost use Rattle.division.specs.Words.{_=?_};
 ghost use Rattle.label.specs.Text.{split};
-ghost use Rattle.label.specs.Label.{wellFormed, formed, numbersIn};
+ghost use Rattle.label.specs.Label.{wellFormed, formed};
+ghost use Rattle.reckoning.specs.Given.{InReach};
 ghost use Rattle.reading.specs.Front.{frontPaper, readFront};
-ghost use Rattle.reading.specs.Given.{Fields, InReach, frontAt, frontNamed};
+ghost use Rattle.reading.specs.Given.{frontAt};
 
 // An edge of so many hundred metres.
 fn edge(hundreds: u32) -> i64
@@ -35,12 +34,12 @@ fn edge(hundreds: u32) -> i64
     x as i64
 }
 
-// The sheet of a scale that reaches so far, behind a label that ends at a place.
-fn front_at(s: u32, at: Reach, end: usize) -> Front
-    requires { ⌜ InReach s at ⌝ }
-    ensures { λ r. ⌜ r ≡ frontAt s at end ⌝ }
+// The sheet that reaches so far, behind a label that ends at a place.
+fn front_at(at: Reach, end: usize) -> Front
+    requires { ⌜ InReach at ⌝ }
+    ensures { λ r. ⌜ r ≡ frontAt at end ⌝ }
 {
-    let t = Scale(s).row();
+    let t = Scale(at.scale).row();
     let sheet = t.first + at.index;
     let left = 2_000 + at.right;
     let top = 51_700 - at.down;
@@ -58,18 +57,6 @@ fn front_at(s: u32, at: Reach, end: usize) -> Front
         sheet: sheet,
         corners: corners,
         end: end,
-    }
-}
-
-// The sheet of a scale that a label names by the fields behind its first.
-fn front_from(label: &[u8], s: u32, fields: &[u64]) -> Fronted
-    requires { ⌜ Fields s (now fields) ⌝ }
-    requires { ⌜ now fields ≡ drop 1 (numbersIn (now label)) ⌝ }
-    ensures { λ r. ⌜ frontPaper r ≡ frontNamed s (now (label .entry)) ⌝ }
-{
-    match ground_from(s, fields) {
-        Reckoned::Out(i) => Fronted::Refused(Refusal::FieldRange(field_start(label, i + 1))),
-        Reckoned::At(at) => Fronted::Label(front_at(s, at, label.len())),
     }
 }
 
@@ -116,9 +103,9 @@ pub fn read_front(line: &[u8]) -> Fronted
     if !whole {
         return Fronted::Refused(front_fault(&line[..most]));
     }
-    let first = values[0];
-    match scale_named(first, count) {
-        Named::Refused(why) => Fronted::Refused(why),
-        Named::Scale(s) => front_from(&line[..end], s, &values[1..count]),
+    match sheet_named(&values[..count]) {
+        Named::Unknown => Fronted::Refused(Refusal::NamesNoScale),
+        Named::Out(i) => Fronted::Refused(Refusal::FieldRange(field_start(&line[..end], i))),
+        Named::Sheet(at) => Fronted::Label(front_at(at, end)),
     }
 }

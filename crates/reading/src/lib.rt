@@ -1,13 +1,12 @@
 // Labels (document 01, "Labels"; document 02, b) from bytes to a sheet, or to what is wrong and where. What a label is, and that no two of them
 // stand for the same ground, is crates/label.
 //
-// A label by itself is `labels`, and one at the front of a line `at_front`: both by the numbers of its fields (`numbers`), its scale, and what
-// the fields behind the first number make at that scale (`ground`).
+// A label by itself is `labels`, and one at the front of a line `at_front`: both by the numbers of its fields (`numbers`), and what these name
+// (crates/reckoning).
 use division::Edges;
 use refusal::Refusal;
 
 pub mod at_front;
-mod ground;
 pub mod labels;
 mod numbers;
 

@@ -2,7 +2,7 @@
 use native.Mathlib.Omega.{arith}
 use borrow.Author.Needs.{needs}
 use Rattle.division.proofs.TestLaws.{returned}
-use Rattle.reading.proofs.ReckonLaws.{few-sheet}
+use Rattle.reckoning.proofs.ReckonLaws.{few-sheet}
 use Rattle.reading.proofs.at_front.front_at.Statement.{statement}
 use Rattle.reading.proofs.at_front.front_at.Tie as tie
 

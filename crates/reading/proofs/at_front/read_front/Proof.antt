@@ -1,19 +1,22 @@
--- What the line begins with is its label where it ends with it, and is read by its numbers; where it does not, the label has a fault. Assumes
--- nothing.
+-- What the line begins with is its label where it ends with it, and is read by what its numbers name; where it does not, the label has a fault.
+-- Assumes nothing.
 use mathlib.Core.Path.{_≡_, refl, sym, ap, _∙_}
 use mathlib.Core.List.{List}
 use Prim.Native.Nat.{ℕ}
 use native.Mathlib.Omega.{arith}
 use borrow.Author.Needs.{needs}
-use lib.ListN.{length, take, drop, length-take}
-use Rattle.refusal.specs.Paper.{answer}
+use lib.ListN.{length, take, length-take}
+use lib.Seq.{length-take-le}
+use Rattle.refusal.specs.declared.Refusal.the-variants.{NamesNoScale, FieldRange}
+use Rattle.refusal.specs.Paper.{answer, refused}
 use Rattle.refusal.proofs.PaperLaws.{fails, holds}
-use Rattle.label.specs.Label.{formed, numbersIn}
+use Rattle.label.specs.Text.{split}
+use Rattle.label.specs.Label.{formed, numbersIn, startOf}
 use Rattle.label.proofs.PieceLaws.{piece}
-use Rattle.label.proofs.NamedLaws.{scaleFrom, read-unformed, read-none, read-named}
-use Rattle.reading.specs.Given.{scalePaper, frontNamed}
-use Rattle.reading.proofs.HeldLaws.{fields-named, others-held, named-by}
-use Rattle.reading.proofs.FrontLaws.{Read, first-bytes, end-there, front-read, front-faulty, same-fault, front-refused, front-named}
+use Rattle.label.proofs.NamedLaws.{read-unformed}
+use Rattle.reckoning.specs.Reckoning.{named}
+use Rattle.reckoning.proofs.ReckonLaws.{named-reach, named-corners, label-named}
+use Rattle.reading.proofs.FrontLaws.{Read, first-bytes, end-there, front-read, front-faulty, same-fault, front-refused, front-sheet}
 use Rattle.reading.proofs.at_front.read_front.Statement.{statement}
 use Rattle.reading.proofs.at_front.read_front.Tie as tie
 
@@ -37,14 +40,10 @@ read c =
     front-read (line (least d)) (bytes (least d)) (d .numbers-in .ensures) (rw (← c .before .is-end .ensures) (holds refl (c .if1 .left)))
 
 -- what is named is named by the label's numbers
-named : (c : tie.After-scale-named) → scalePaper (c .scale-named .result) ≡ scaleFrom (numbersIn (piece 32 (line (least (c .before .before .before .before)))))
-named c =
-    let w = read (c .before) .0 in
-    c .scale-named .ensures ∙ named-by (c .before .before .before .before .numbers-in .ensures .held) (w .some) ∙ ap scaleFrom (w .numbers)
-
--- and the arm that is taken has the scale
-scale : (c : tie.After-s) → scaleFrom (numbersIn (piece 32 (line (least (c .before .before .before .before .before .before))))) ≡ answer (c .s .given .0 .0)
-scale c = sym (named (c .before .before)) ∙ ap scalePaper (c .s .given .1)
+told : (c : tie.After-sheet-named) → named (numbersIn (piece 32 (line (least (c .before .before .before .before .before))))) ≡ c .sheet-named .result
+told c =
+    let x = c .before .before in
+    sym (c .sheet-named .ensures ∙ ap named (x .before .before .before .numbers-in .ensures .held .front ∙ read x .0 .numbers))
 
 least-requires : tie.Need-least-requires
 least-requires c κs = search needs
@@ -78,56 +77,65 @@ returns c =
     let e = c .front-fault .ensures ∙ ap (λ (s : List ℕ). formed (piece 32 s)) (bytes (least d)) ∙ same-fault l in
     front-refused l (c .front-fault .result) (read-unformed (piece 32 l) (c .front-fault .result) (sym e))
 
-array-read-first : tie.Need-array-read-first
-array-read-first c = search needs
+array-share-prefix-values : tie.Need-array-share-prefix-values
+array-share-prefix-values c = search needs
 
-scale-named-requires : tie.Need-scale-named-requires
-scale-named-requires c κs = search needs
+slice-aggregate-sheet-named : tie.Need-slice-aggregate-sheet-named
+slice-aggregate-sheet-named c = let h = c .before .before .before .before .numbers-in .ensures .held in sym (length-take-le _ _ (h .within))
 
-enum-known-why : tie.Need-enum-known-why
-enum-known-why c = search needs
+sheet-named-requires : tie.Need-sheet-named-requires
+sheet-named-requires c κs = search needs
 
-enum-known-s : tie.Need-enum-known-s
-enum-known-s c = search needs
+enum-told : tie.Need-enum-told
+enum-told c = search needs
 
-slice-aggregate-front-from : tie.Need-slice-aggregate-front-from
-slice-aggregate-front-from c =
-    let d = c .before .before .before .before .before .before .before .before in
-    let l = line (least d) in
-    omega (arith, end-there l (bytes (least d)) (d .numbers-in .ensures), length-take (d .numbers-in .result .end) l)
+enum-known-i : tie.Need-enum-known-i
+enum-known-i c = search needs
 
-sub-front-from : tie.Need-sub-front-from
-sub-front-from c = omega (arith, read (c .before .before .before .before .before) .0 .some)
+slice-aggregate-field-start : tie.Need-slice-aggregate-field-start
+slice-aggregate-field-start c =
+    let d = c .before .before .before .before .before .before .before .before .before in
+    sym (length-take-le (d .numbers-in .result .end) (line (least d)) (end-there (line (least d)) (bytes (least d)) (d .numbers-in .ensures)))
 
-part-front-from-start : tie.Need-part-front-from-start
-part-front-from-start c = omega (arith, read (c .before .before .before .before .before .before) .0 .some)
+field-start-requires : tie.Need-field-start-requires
+field-start-requires c κs = search needs
 
-part-front-from-end : tie.Need-part-front-from-end
-part-front-from-end c = search needs
+enum-known-at : tie.Need-enum-known-at
+enum-known-at c = search needs
 
-front-from-requires : tie.Need-front-from-requires
-front-from-requires c κs =
-    let s = c .before .before .before .before in
-    let x = s .before .before .before in
-    let d = x .before .before .before in
-    let p = piece 32 (line (least d)) in
-    let e = others-held (d .numbers-in .ensures .held) ∙ ap (drop 1) (read x .0 .numbers) in
-    (rw e (fields-named (numbersIn p) (s .s .given .0 .0) (scale s)), rw (read x .1) e)
+front-at-requires : tie.Need-front-at-requires
+front-at-requires c κs =
+    let a = c .before in
+    let n = a .before .before in
+    named-reach (numbersIn (piece 32 (line (least (n .before .before .before .before .before))))) (told n ∙ a .at .given .1)
 
 returns-2 : tie.Need-returns-2
 returns-2 c =
-    let w = c .before in
-    let x = w .before .before .before in
+    let n = c .before .before in
+    let x = n .before .before in
     let l = line (least (x .before .before .before)) in
-    front-refused l (w .why .given .0 .0) (read-none (piece 32 l) (read x .0 .formed) (w .why .given .0 .0) (sym (named (w .before .before)) ∙ ap scalePaper (w .why .given .1)))
+    front-refused l NamesNoScale (sym (label-named (piece 32 l) (read x .0 .formed) (told n ∙ c .enum-told .given .1)))
 
 returns-3 : tie.Need-returns-3
 returns-3 c =
-    let s = c .before .before .before .before .before in
-    let x = s .before .before .before in
+    let i = c .before .before .before in
+    let n = i .before .before in
+    let x = n .before .before in
     let l = line (least (x .before .before .before)) in
-    let n = s .s .given .0 .0 in
-    c .front-from .ensures ∙ ap (frontNamed n) (read x .1) ∙ front-named l n (read-named (piece 32 l) (read x .0 .formed) n (scale s))
+    let e = c .field-start .ensures ∙ ap (λ (s : List ℕ). startOf (i .i .given .0 .0) (split 45 s)) (read x .1) in
+    front-refused l (FieldRange (c .field-start .result)) (sym (ap (refused 5) e ∙ label-named (piece 32 l) (read x .0 .formed) (told n ∙ i .i .given .1)))
+
+returns-4 : tie.Need-returns-4
+returns-4 c =
+    let a = c .before .before in
+    let n = a .before .before in
+    let x = n .before .before in
+    let d = x .before .before .before in
+    let l = line (least d) in
+    let t = told n ∙ a .at .given .1 in
+    let e = sym (length-take-le (d .numbers-in .result .end) l (end-there l (bytes (least d)) (d .numbers-in .ensures))) ∙ ap length (read x .1) in
+    ap answer (c .front-at .ensures)
+    ∙ front-sheet l (a .at .given .0 .0) (named-corners (numbersIn (piece 32 l)) t) e (label-named (piece 32 l) (read x .0 .formed) t)
 
 pub read-front-spec : {M : Type 1} → statement M
 read-front-spec =
@@ -141,14 +149,15 @@ read-front-spec =
     slice-aggregate-front-fault
     front-fault-requires
     returns
-    array-read-first
-    scale-named-requires
-    enum-known-why
-    enum-known-s
-    slice-aggregate-front-from
-    sub-front-from
-    part-front-from-start
-    part-front-from-end
-    front-from-requires
+    array-share-prefix-values
+    slice-aggregate-sheet-named
+    sheet-named-requires
+    enum-told
+    enum-known-i
+    slice-aggregate-field-start
+    field-start-requires
+    enum-known-at
+    front-at-requires
     returns-2
-    returns-3)
+    returns-3
+    returns-4)

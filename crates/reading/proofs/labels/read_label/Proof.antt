@@ -1,19 +1,18 @@
--- A label without a fault of form is read by its numbers: they name a scale, and those behind the first name its sheet. Of one with a fault
--- the second pass tells which. Assumes nothing.
+-- A label without a fault of form is read by what its numbers name. Of one with a fault the second pass tells which. Assumes nothing.
 use mathlib.Core.Path.{_≡_, refl, sym, ap, _∙_}
 use mathlib.Core.List.{List}
-use Prim.Native.Nat.{ℕ}
+use Prim.Native.Nat.{ℕ, _+_}
 use native.Mathlib.Omega.{arith}
 use borrow.Author.Needs.{needs}
-use lib.ListN.{drop}
+use lib.Seq.{length-take-le}
 use Rattle.refusal.specs.declared.Refusal.the-variants.{LabelLength}
-use Rattle.refusal.specs.Paper.{answer}
+use Rattle.refusal.specs.Paper.{answer, refused}
 use Rattle.refusal.proofs.PaperLaws.{fails, holds}
 use Rattle.label.specs.Label.{numbersIn}
-use Rattle.reading.specs.Given.{scalePaper}
 use Rattle.label.proofs.FormLaws.{long-form}
-use Rattle.label.proofs.NamedLaws.{scaleFrom, read-unformed, read-none, read-named}
-use Rattle.reading.proofs.HeldLaws.{fields-named, others-held, named-by}
+use Rattle.label.proofs.NamedLaws.{read-unformed}
+use Rattle.reckoning.specs.Reckoning.{named}
+use Rattle.reckoning.proofs.ReckonLaws.{few-sheet, named-reach, label-named}
 use Rattle.reading.proofs.FrontLaws.{Read, label-read, label-faulty}
 use Rattle.reading.proofs.labels.read_label.Statement.{statement}
 use Rattle.reading.proofs.labels.read_label.Tie as tie
@@ -26,14 +25,10 @@ read : (c : tie.Else2) → let d = c .before .before .before in Read (bytes d) (
 read c = label-read (c .before .before .before .numbers-in .ensures) (holds refl (c .if2 .left))
 
 -- what is named is named by the label's numbers
-named : (c : tie.After-scale-named) → scalePaper (c .scale-named .result) ≡ scaleFrom (numbersIn (bytes (c .before .before .before .before)))
-named c =
-    let w = read (c .before) in
-    c .scale-named .ensures ∙ named-by (c .before .before .before .before .numbers-in .ensures .held) (w .some) ∙ ap scaleFrom (w .numbers)
-
--- and the arm that is taken has the scale
-scale : (c : tie.After-s) → scaleFrom (numbersIn (bytes (c .before .before .before .before .before .before))) ≡ answer (c .s .given .0 .0)
-scale c = sym (named (c .before .before)) ∙ ap scalePaper (c .s .given .1)
+told : (c : tie.After-sheet-named) → named (numbersIn (bytes (c .before .before .before .before .before))) ≡ c .sheet-named .result
+told c =
+    let x = c .before .before in
+    sym (c .sheet-named .ensures ∙ ap named (x .before .before .before .numbers-in .ensures .held .front ∙ read x .numbers))
 
 returns : tie.Need-returns
 returns c = let l = c .before .before .args .bytes .now in sym (read-unformed l (LabelLength 16) (long-form l (c .if1 .taken)))
@@ -52,46 +47,57 @@ form-fault-requires c κs =
 returns-2 : tie.Need-returns-2
 returns-2 c = sym (read-unformed (bytes (c .before .before .before .before)) (c .form-fault .result) (sym (c .form-fault .ensures)))
 
-array-read-first : tie.Need-array-read-first
-array-read-first c = search needs
+array-share-prefix-values : tie.Need-array-share-prefix-values
+array-share-prefix-values c = search needs
 
-scale-named-requires : tie.Need-scale-named-requires
-scale-named-requires c κs = search needs
+slice-aggregate-sheet-named : tie.Need-slice-aggregate-sheet-named
+slice-aggregate-sheet-named c = let h = c .before .before .before .before .numbers-in .ensures .held in sym (length-take-le _ _ (h .within))
 
-enum-known-why : tie.Need-enum-known-why
-enum-known-why c = search needs
+sheet-named-requires : tie.Need-sheet-named-requires
+sheet-named-requires c κs = search needs
 
-enum-known-s : tie.Need-enum-known-s
-enum-known-s c = search needs
+enum-told : tie.Need-enum-told
+enum-told c = search needs
 
-sub-sheet-from : tie.Need-sub-sheet-from
-sub-sheet-from c = omega (arith, read (c .before .before .before .before) .some)
+enum-known-i : tie.Need-enum-known-i
+enum-known-i c = search needs
 
-part-sheet-from-start : tie.Need-part-sheet-from-start
-part-sheet-from-start c = omega (arith, read (c .before .before .before .before .before) .some)
+field-start-requires : tie.Need-field-start-requires
+field-start-requires c κs = search needs
 
-part-sheet-from-end : tie.Need-part-sheet-from-end
-part-sheet-from-end c = search needs
+enum-known-at : tie.Need-enum-known-at
+enum-known-at c = search needs
 
-sheet-from-requires : tie.Need-sheet-from-requires
-sheet-from-requires c κs =
-    let s = c .before .before .before in
-    let x = s .before .before .before in
-    let d = x .before .before .before in
-    let e = others-held (d .numbers-in .ensures .held) ∙ ap (drop 1) (read x .numbers) in
-    (rw e (fields-named (numbersIn (bytes d)) (s .s .given .0 .0) (scale s)), e)
+first-requires : tie.Need-first-requires
+first-requires c κs = search needs
+
+add-t24 : tie.Need-add-t24
+add-t24 c =
+    let a = c .before .before .before in
+    let n = a .before .before in
+    rw (c .before .first .ensures) (record { fits = omega (arith, few-sheet (named-reach (numbersIn (bytes (n .before .before .before .before .before))) (told n ∙ a .at .given .1))) })
 
 returns-3 : tie.Need-returns-3
 returns-3 c =
-    let w = c .before in
-    let x = w .before .before .before in
-    sym (read-none (bytes (x .before .before .before)) (read x .formed) (w .why .given .0 .0) (sym (named (w .before .before)) ∙ ap scalePaper (w .why .given .1)))
+    let n = c .before .before in
+    let x = n .before .before in
+    label-named (bytes (x .before .before .before)) (read x .formed) (told n ∙ c .enum-told .given .1)
 
 returns-4 : tie.Need-returns-4
 returns-4 c =
-    let s = c .before .before .before .before in
-    let x = s .before .before .before in
-    c .sheet-from .ensures ∙ sym (read-named (bytes (x .before .before .before)) (read x .formed) (s .s .given .0 .0) (scale s))
+    let i = c .before .before in
+    let n = i .before .before in
+    let x = n .before .before in
+    ap (refused 5) (c .field-start .ensures) ∙ label-named (bytes (x .before .before .before)) (read x .formed) (told n ∙ i .i .given .1)
+
+returns-5 : tie.Need-returns-5
+returns-5 c =
+    let f = c .before in
+    let a = f .before .before in
+    let n = a .before .before in
+    let x = n .before .before in
+    ap (λ (k : ℕ). answer (k + a .at .given .0 .0 .index)) (f .first .ensures)
+    ∙ label-named (bytes (x .before .before .before)) (read x .formed) (told n ∙ a .at .given .1)
 
 pub read-label-spec : {M : Type 1} → statement M
 read-label-spec =
@@ -102,13 +108,15 @@ read-label-spec =
     numbers-in-requires
     form-fault-requires
     returns-2
-    array-read-first
-    scale-named-requires
-    enum-known-why
-    enum-known-s
-    sub-sheet-from
-    part-sheet-from-start
-    part-sheet-from-end
-    sheet-from-requires
+    array-share-prefix-values
+    slice-aggregate-sheet-named
+    sheet-named-requires
+    enum-told
+    enum-known-i
+    field-start-requires
+    enum-known-at
+    first-requires
+    add-t24
     returns-3
-    returns-4)
+    returns-4
+    returns-5)

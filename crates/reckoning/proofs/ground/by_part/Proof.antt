@@ -8,10 +8,10 @@ use lib.ListN.{getD}
 use Rattle.refusal.proofs.PaperLaws.{fails, holds}
 use Rattle.division.specs.Table.{parts}
 use Rattle.division.proofs.TableLaws.{few-parts}
-use Rattle.reading.specs.Given.{InReach}
-use Rattle.reading.proofs.ReckonLaws.{partIn, deepReach, few-index, a-field, some-parts, part-out, part-range, part-on, part-out-few, part-reach}
-use Rattle.reading.proofs.ground.by_part.Statement.{statement}
-use Rattle.reading.proofs.ground.by_part.Tie as tie
+use Rattle.reckoning.specs.Given.{InReach}
+use Rattle.reckoning.proofs.ReckonLaws.{partIn, deepReach, few-index, a-field, some-parts, part-out, part-range, part-on, part-out-few, part-reach}
+use Rattle.reckoning.proofs.ground.by_part.Statement.{statement}
+use Rattle.reckoning.proofs.ground.by_part.Tie as tie
 
 row-requires : tie.Need-row-requires
 row-requires c κs = search needs
@@ -50,7 +50,7 @@ enum-known-above-2 c = search needs
 range : (c : tie.After-known-told2) → let a = start (c .before .before .before .before) .args in (1 ≤ getD (a .fields .now) 0 0) × (getD (a .fields .now) 0 0 ≤ parts (a .s))
 range c = let e = c .before .before .before in let s = start (e .before) in part-range (s .pre .0) (s .pre .1 .0) (on e)
 
-reach : (c : tie.After-known-told2) → let a = start (c .before .before .before .before) .args in InReach (a .s) (deepReach (a .s) (a .fields .now) (c .before .above2 .given .0 .0))
+reach : (c : tie.After-known-told2) → let a = start (c .before .before .before .before) .args in InReach (deepReach (a .s) (a .fields .now) (c .before .above2 .given .0 .0))
 reach c =
     let e = c .before .before .before in
     let s = start (e .before) in

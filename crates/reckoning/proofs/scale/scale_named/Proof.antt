@@ -7,8 +7,8 @@ use lib.Dec.{eqb}
 use Rattle.division.specs.Words.{from, keep}
 use Rattle.division.specs.Table.{table, tableRow}
 use Rattle.label.specs.Label.{markOf, countOf, scaleWith}
-use Rattle.reading.proofs.labels.scale_named.Statement.{statement}
-use Rattle.reading.proofs.labels.scale_named.Tie as tie
+use Rattle.reckoning.proofs.scale.scale_named.Statement.{statement}
+use Rattle.reckoning.proofs.scale.scale_named.Tie as tie
 
 other : (n x : ℕ) → (x ≡ n → ⊥) → eqb n x ≡ false
 other n x h = ne-eqb n x (λ e. h (sym e))

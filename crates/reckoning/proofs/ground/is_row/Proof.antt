@@ -1,8 +1,8 @@
 -- The code's test is the definition's. Assumes nothing.
 use mathlib.Core.Path.{refl}
 use borrow.Author.Needs.{needs}
-use Rattle.reading.proofs.ground.is_row.Statement.{statement}
-use Rattle.reading.proofs.ground.is_row.Tie as tie
+use Rattle.reckoning.proofs.ground.is_row.Statement.{statement}
+use Rattle.reckoning.proofs.ground.is_row.Tie as tie
 
 add-last : tie.Need-add-last
 add-last c = search needs

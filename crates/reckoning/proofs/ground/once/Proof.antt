@@ -2,9 +2,9 @@
 use mathlib.Core.Path.{_≡_, refl}
 use borrow.Author.Needs.{needs}
 use Rattle.division.specs.Table.{table, tableRow, parentScale}
-use Rattle.reading.proofs.ReckonLaws.{a-field, fields-above, reckon-above, from-three}
-use Rattle.reading.proofs.ground.once.Statement.{statement}
-use Rattle.reading.proofs.ground.once.Tie as tie
+use Rattle.reckoning.proofs.ReckonLaws.{a-field, fields-above, reckon-above, from-three}
+use Rattle.reckoning.proofs.ground.once.Statement.{statement}
+use Rattle.reckoning.proofs.ground.once.Tie as tie
 
 -- it has a parent
 made : (s : tie.Start) → parentScale (s .args .s) ≡ 0 → ⊥

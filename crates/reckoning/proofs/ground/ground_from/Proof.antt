@@ -1,9 +1,10 @@
 -- Each arm goes by the scales that its own is made from, as the table has them. Assumes nothing.
 use mathlib.Core.Path.{_≡_, refl}
 use Rattle.division.specs.Table.{table, tableRow}
-use Rattle.reading.proofs.ReckonLaws.{arm, at-scale, ninth}
-use Rattle.reading.proofs.ground.ground_from.Statement.{statement}
-use Rattle.reading.proofs.ground.ground_from.Tie as tie
+use Rattle.division.proofs.TableLaws.{none-of-eight}
+use Rattle.reckoning.proofs.ReckonLaws.{arm, at-scale}
+use Rattle.reckoning.proofs.ground.ground_from.Statement.{statement}
+use Rattle.reckoning.proofs.ground.ground_from.Tie as tie
 
 by-area-requires : tie.Need-by-area-requires
 unfolding table tableRow
@@ -41,7 +42,7 @@ twice-requires-2 c κs = (arm (c .before .before .pre) (c .match .keys8), (refl,
 last : (c : tie.At-match-rest) → c .before .before .args .s ≡ 9
 last c =
     let r = c .match .rest in
-    ninth (c .before .before .pre .scale) (r .0 .0 .0 .0 .0 .0 .0 .1) (r .0 .0 .0 .0 .0 .0 .1) (r .0 .0 .0 .0 .0 .1) (r .0 .0 .0 .0 .1) (r .0 .0 .0 .1) (r .0 .0 .1) (r .0 .1) (r .1)
+    none-of-eight (c .before .before .pre .scale) (r .1, (r .0 .1, (r .0 .0 .1, (r .0 .0 .0 .1, (r .0 .0 .0 .0 .1, (r .0 .0 .0 .0 .0 .1, (r .0 .0 .0 .0 .0 .0 .1, (r .0 .0 .0 .0 .0 .0 .0 .1, tt))))))))
 
 thrice-requires : tie.Need-thrice-requires
 unfolding table tableRow

@@ -5,10 +5,10 @@ use borrow.Author.Needs.{needs}
 use Rattle.division.specs.Table.{rows, columns}
 use Rattle.division.proofs.TableLaws.{rules}
 use Rattle.label.proofs.FieldLaws.{AreaRange}
-use Rattle.reading.specs.Given.{InReach}
-use Rattle.reading.proofs.ReckonLaws.{rowIn, columnIn, topReach, few-index, two-fields, top-out, top-at, top-reach, top-range}
-use Rattle.reading.proofs.ground.by_area.Statement.{statement}
-use Rattle.reading.proofs.ground.by_area.Tie as tie
+use Rattle.reckoning.specs.Given.{InReach}
+use Rattle.reckoning.proofs.ReckonLaws.{rowIn, columnIn, topReach, few-index, two-fields, top-out, top-at, top-reach, top-range}
+use Rattle.reckoning.proofs.ground.by_area.Statement.{statement}
+use Rattle.reckoning.proofs.ground.by_area.Tie as tie
 
 row-requires : tie.Need-row-requires
 row-requires c κs = search needs
@@ -44,7 +44,7 @@ returns c = let p = c .before in let s = start p in top-out (s .pre .0) (s .pre 
 range : (c : tie.Else1) → let a = start (c .before) .args in AreaRange (rows (a .s)) (columns (a .s)) (a .fields .now)
 range c = let p = c .before in let s = start p in top-range (s .pre .0) (s .pre .1) (on-row p) (on-column p) (c .if1 .left)
 
-reach : (c : tie.Else1) → let a = start (c .before) .args in InReach (a .s) (topReach (a .s) (a .fields .now))
+reach : (c : tie.Else1) → let a = start (c .before) .args in InReach (topReach (a .s) (a .fields .now))
 reach c = let p = c .before in let s = start p in top-reach (s .pre .0) (s .pre .1) (on-row p) (on-column p) (c .if1 .left)
 
 sub-below : tie.Need-sub-below

@@ -1,19 +1,14 @@
 // What the fields behind a label's first number make at a scale, by way of its parents: an index, and how far the sheet lies from the area's
 // corner. Each scale has an arm of its own, so that a compiled program works with numbers that it knows.
+use crate::Reach;
 use division::table::Scale;
 ghost use mathlib.Core.Path.{_≡_};
 ghost use Prim.Native.Nat.{_+_};
 ghost use lib.ListN.{drop};
 ghost use Rattle.division.specs.Words.{between};
 ghost use Rattle.division.specs.Table.{parentScale};
-ghost use Rattle.reading.specs.Given.{Fields, reckon};
-
-// An index of a scale, and how far its sheet lies to the right of the area's corner and below it, in hundreds of metres.
-pub struct Reach {
-    pub index: u32,
-    pub right: u32,
-    pub down: u32,
-}
+ghost use Rattle.reckoning.specs.Reckoning.{reckon};
+ghost use Rattle.reckoning.specs.Given.{Fields};
 
 // What fields make, or the first of them that is out of range, counted from 0 behind the first number.
 pub enum Reckoned {
@@ -58,6 +53,7 @@ fn by_area(s: u32, fields: &[u64]) -> Reckoned
     let right = beside * (t.width / 100);
     let down = below * (t.height / 100);
     Reckoned::At(Reach {
+        scale: s,
         index: index,
         right: right,
         down: down,
@@ -84,6 +80,7 @@ fn by_part(s: u32, fields: &[u64], above: Reckoned) -> Reckoned
             let right = up.right + j % t.side * (t.width / 100);
             let down = up.down + j / t.side * (t.height / 100);
             Reckoned::At(Reach {
+                scale: s,
                 index: index,
                 right: right,
                 down: down,

@@ -1,0 +1,105 @@
+-- The first number and the count name a scale, and the others a sheet of it. Assumes nothing.
+use mathlib.Core.Path.{_≡_, sym, ap, _∙_}
+use native.Mathlib.Omega.{arith}
+use borrow.Author.Needs.{needs}
+use lib.ListN.{length, getD, drop, length-drop}
+use Rattle.reckoning.specs.declared.scale.Marked.the-variants.{Scale}
+use Rattle.reckoning.specs.Reckoning.{reckon}
+use Rattle.reckoning.specs.Given.{marked}
+use Rattle.reckoning.proofs.ReckonLaws.{others-are, out-few, named-none, named-not, named-by, fields-named}
+use Rattle.reckoning.proofs.sheet_named.Statement.{statement}
+use Rattle.reckoning.proofs.sheet_named.Tie as tie
+
+returns : tie.Need-returns
+returns c = named-none (c .before .before .args .numbers .now) (c .if1 .taken)
+
+shared-slice-read-first : tie.Need-shared-slice-read-first
+shared-slice-read-first c = search needs
+
+scale-named-requires : tie.Need-scale-named-requires
+scale-named-requires c κs = search needs
+
+enum-told : tie.Need-enum-told
+enum-told c = search needs
+
+-- the scale that is named
+scale : (c : tie.After-s) → let vs = c .before .before .before .before .before .before .args .numbers .now in marked (getD vs 0 0) (length vs) ≡ Scale (c .s .given .0 .0)
+scale c = sym (c .before .before .scale-named .ensures) ∙ c .s .given .1
+
+enum-known-s : tie.Need-enum-known-s
+enum-known-s c = search needs
+
+sub-ground-from : tie.Need-sub-ground-from
+sub-ground-from c = search needs
+
+part-ground-from-start : tie.Need-part-ground-from-start
+part-ground-from-start c = search needs
+
+part-ground-from-end : tie.Need-part-ground-from-end
+part-ground-from-end c = search needs
+
+ground-from-requires : tie.Need-ground-from-requires
+ground-from-requires c κs =
+    let s = c .before .before in
+    let vs = s .before .before .before .before .before .before .args .numbers .now in
+    rw (others-are vs) (fields-named vs (scale s))
+
+-- what its fields make
+made : (c : tie.After-ground-from) → let s = c .before .before .before in let vs = s .before .before .before .before .before .before .args .numbers .now in reckon (s .s .given .0 .0) (drop 1 vs) ≡ c .ground-from .result
+made c =
+    let s = c .before .before .before in
+    let vs = s .before .before .before .before .before .before .args .numbers .now in
+    sym (c .ground-from .ensures ∙ ap (reckon (s .s .given .0 .0)) (others-are vs))
+
+enum-known-i : tie.Need-enum-known-i
+enum-known-i c = search needs
+
+add-t18 : tie.Need-add-t18
+add-t18 c =
+    let i = c .before in
+    let g = i .before .before in
+    let s = g .before .before .before in
+    let vs = s .before .before .before .before .before .before .args .numbers .now in
+    omega (arith, length-drop 1 vs, out-few (fields-named vs (scale s)) (made g ∙ i .i .given .1))
+
+enum-known-at : tie.Need-enum-known-at
+enum-known-at c = search needs
+
+returns-2 : tie.Need-returns-2
+returns-2 c =
+    let m = c .before .before in
+    named-not (m .before .before .before .before .args .numbers .now) (sym (m .scale-named .ensures) ∙ c .enum-told .given .1)
+
+returns-3 : tie.Need-returns-3
+returns-3 c =
+    let i = c .before in
+    let g = i .before .before in
+    let s = g .before .before .before in
+    named-by (s .before .before .before .before .before .before .args .numbers .now) (scale s) (made g ∙ i .i .given .1)
+
+returns-4 : tie.Need-returns-4
+returns-4 c =
+    let a = c .before in
+    let g = a .before .before in
+    let s = g .before .before .before in
+    named-by (s .before .before .before .before .before .before .args .numbers .now) (scale s) (made g ∙ a .at .given .1)
+
+pub sheet-named-spec : {M : Type 1} → statement M
+sheet-named-spec =
+    tie.close
+    (tie.spec
+    returns
+    shared-slice-read-first
+    scale-named-requires
+    enum-told
+    enum-known-s
+    sub-ground-from
+    part-ground-from-start
+    part-ground-from-end
+    ground-from-requires
+    enum-known-i
+    add-t18
+    enum-known-at
+    returns-2
+    returns-3
+    returns-4)
