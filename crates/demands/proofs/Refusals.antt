@@ -20,7 +20,7 @@ use Rattle.frame.proofs.PointTheorems.{answered}
 use Rattle.frame.proofs.FrameTheorems.{frame-exact}
 use Rattle.local.specs.declared.Local.{Local}
 use Rattle.local.specs.declared.Local.the-variants.{One, Two, Three}
-use Rattle.local.specs.Municipality.{of2000, municipality}
+use Rattle.municipality.specs.Municipality.{of2000, municipality}
 use Rattle.local.specs.Numbers.{sheetNumbered, part, standsFor, localToSheet, numberOf, oneNumber, twoNumbers, threeNumbers, numbersOf, sheetToLocal}
 use Rattle.label.specs.Text.{split}
 use Rattle.label.specs.Label.{labelOf, writeLabel, labelLength}

@@ -23,24 +23,6 @@ map-at f [] i h = absurd (omega arith)
 map-at f (x ∷ l) zero h = refl
 map-at f (x ∷ l) (suc i) h = map-at f l i (le-of-suc-le-suc h)
 
--- place by place: whether it is one of those before i
-pub record Seeking (l : List ℕ) (k : ℕ) (found : Bool) (i : ℕ) : Type 0 where
-  pub upto : i ≤ length l
-  pub rest : (found || isIn (drop i l) k) ≡ isIn l k
-
-pub seeking-first : (l : List ℕ) (k : ℕ) → Seeking l k false 0
-seeking-first l k = record { upto = omega arith; rest = refl }
-
-pub seeking-next : {l : List ℕ} {k : ℕ} (found : Bool) {i : ℕ} → Seeking l k found i → i < length l → Seeking l k (found || k =? getD l i 0) (i + 1)
-seeking-next {l} {k} found {i} s h =
-    let here : isIn (drop i l) k ≡ (k =? getD l i 0 || isIn (drop (i + 1) l) k) = rw (from-here l i h) in
-    record { upto = omega arith; rest = or-assoc found (k =? getD l i 0) (isIn (drop (i + 1) l) k) ∙ ap (λ (b : Bool). found || b) (sym here) ∙ s .rest }
-
-pub seeking-done : {l : List ℕ} {k : ℕ} (found : Bool) {i : ℕ} → Seeking l k found i → length l ≤ i → found ≡ isIn l k
-seeking-done {l} {k} found {i} s h =
-    let none : isIn (drop i l) k ≡ false = rw (drop-of-length-le l h) in
-    sym (or-false found) ∙ ap (λ (b : Bool). found || b) (sym none) ∙ s .rest
-
 -- x is none of a list; no two of a list are the same
 abbrev pub NoneOf : ℕ → List ℕ → Type 0
 NoneOf x l = (y : ℕ) → List·Memᴰ y l → x ≡ y → ⊥

@@ -23,10 +23,11 @@ use Rattle.relations.specs.Relations.{isPart, parent, child}
 use Rattle.relations.proofs.RelationTheorems.{child-answered, child-scale, child-sheet, child-has-parent}
 use Rattle.local.specs.declared.Local.{Local}
 use Rattle.local.specs.declared.Local.the-variants.{One, Two, Three}
-use Rattle.local.specs.Municipality.{of2000, municipality}
+use Rattle.municipality.specs.Municipality.{of2000, municipality}
 use Rattle.local.specs.Rows.{byRows, placeIn}
 use Rattle.local.specs.Numbers.{sheetNumbered, part, standsFor, localToSheet, numberOf, partNumber, oneNumber, twoNumbers, threeNumbers, numbersOf, sheetToLocal, fromThree, asThree}
-use Rattle.local.specs.Given.{OfScale, Part, Municipal}
+use Rattle.municipality.specs.Given.{OfScale}
+use Rattle.local.specs.Given.{Part, Municipal}
 use Rattle.local.specs.Theorems.{SheetOf, listed, quarter, sixteenth, Before}
 use Rattle.local.proofs.CountLaws.{place-in, at-place, count}
 use Rattle.local.proofs.OrderLaws.{rises-apart, places-rise}

@@ -22,10 +22,11 @@ use Rattle.relations.proofs.RelationLaws.{Child, child-deep}
 use Rattle.relations.proofs.RelationTheorems.{child-answered, child-scale, child-is-at, parent-has-child}
 use Rattle.local.specs.declared.Local.{Local}
 use Rattle.local.specs.declared.Local.the-variants.{One, Two, Three}
-use Rattle.local.specs.Municipality.{municipality}
+use Rattle.municipality.specs.Municipality.{municipality}
 use Rattle.local.specs.Rows.{byRows, placeIn}
 use Rattle.local.specs.Numbers.{localToSheet, partNumber, numberOf, oneNumber, twoNumbers, threeNumbers, numbersOf, sheetToLocal}
-use Rattle.local.specs.Given.{OfScale, Part, Municipal}
+use Rattle.municipality.specs.Given.{OfScale}
+use Rattle.local.specs.Given.{Part, Municipal}
 
 -- ---- the list first
 

@@ -28,10 +28,12 @@ use Rattle.division.proofs.WindowLaws.{columns-run, rows-run}
 use Rattle.division.proofs.MemberLaws.{in-mem, mem-in, mem-at, keep-has, has-keep, has-from, has-block}
 use Rattle.division.proofs.CoverTheorems.{in-order}
 use Rattle.local.specs.Rows.{byRows, placeIn}
-use Rattle.local.specs.Given.{OfScale, Municipal, OneOf, HasNumber, countBelow, Reaches, IsNth}
+use Rattle.municipality.specs.Given.{OfScale}
+use Rattle.local.specs.Given.{Municipal, OneOf, HasNumber, countBelow, Reaches, IsNth}
 use Rattle.local.proofs.CountLaws.{map-at, count, count-all, count-map, pick-all}
 use Rattle.local.proofs.OrderLaws.{RisesBy, rises-apart, keep-rises, smaller, rank, nth-key}
-use Rattle.local.proofs.MunicipalityLaws.{seven, few, member-scale, distinct}
+use Rattle.municipality.proofs.JudgeLaws.{seven}
+use Rattle.local.proofs.MunicipalityLaws.{few, member-scale, distinct}
 
 -- ---- the whole grid
 

@@ -8,12 +8,7 @@ use Rattle.refusal.specs.Paper.{answer}
 use Rattle.refusal.specs.Numbers.{isIn}
 use Rattle.division.specs.Words.{_<?_, keep}
 use Rattle.division.specs.Sheet.{isSheet, scaleOf}
-use Rattle.local.specs.Municipality.{municipality}
-
--- a sheet of a scale
-pub record OfScale (s k : ℕ) : Type 0 where
-  pub sheet : isSheet k ≡ true
-  pub scale : scaleOf k ≡ s
+use Rattle.municipality.specs.Municipality.{municipality}
 
 -- a 1:1 000 or a 1:500 sheet
 pub record Part (k : ℕ) : Type 0 where

@@ -1,4 +1,3 @@
-pub mod Municipality
 pub mod Rows
 pub mod Numbers
 pub mod Answers

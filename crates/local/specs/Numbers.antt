@@ -12,7 +12,7 @@ use Rattle.relations.specs.Relations.{parent, child}
 use Rattle.local.specs.declared.Local.{Local}
 use Rattle.local.specs.declared.Local.the-variants.{One, Two, Three}
 use Rattle.local.specs.declared.Triple.{Triple}
-use Rattle.local.specs.Municipality.{municipality}
+use Rattle.municipality.specs.Municipality.{municipality}
 use Rattle.local.specs.Rows.{byRows, placeIn}
 
 -- ---- local numbers to sheet

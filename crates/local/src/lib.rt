@@ -6,7 +6,6 @@ use refusal::Refusal;
 ghost use mathlib.Core.Path.{_≡_};
 ghost use Rattle.local.specs.Numbers.{fromThree, asThree};
 
-mod municipality;
 pub mod numbers;
 mod rows;
 

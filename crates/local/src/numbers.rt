@@ -1,13 +1,13 @@
 // Local numbers to sheet, and sheet to local numbers.
 use crate::Known;
 use crate::Local;
-use crate::municipality::has;
-use crate::municipality::judge;
 use crate::rows::number_of;
 use crate::rows::sheet_numbered;
 use division::Found;
 use division::sheet::is_sheet;
 use division::table::Scale;
+use municipality::has;
+use municipality::judge;
 use refusal::Judged;
 use refusal::Refusal;
 use relations::kin::child;
@@ -18,7 +18,8 @@ ghost use Rattle.division.specs.Answers.{sheetPaper};
 ghost use Rattle.relations.specs.Relations.{parent};
 ghost use Rattle.local.specs.Numbers.{sheetNumbered, partNumber, part, standsFor, localToSheet, oneNumber, twoNumbers, threeNumbers, numbersOf, sheetToLocal};
 ghost use Rattle.local.specs.Answers.{knownPaper};
-ghost use Rattle.local.specs.Given.{OfScale, Part, Municipal};
+ghost use Rattle.municipality.specs.Given.{OfScale};
+ghost use Rattle.local.specs.Given.{Part, Municipal};
 
 // ---- local numbers to sheet
 

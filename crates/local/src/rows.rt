@@ -12,7 +12,8 @@ ghost use Rattle.refusal.specs.Paper.{answer};
 ghost use Rattle.division.specs.Sheet.{readingOrder};
 ghost use Rattle.division.specs.Answers.{sheetPaper};
 ghost use Rattle.local.specs.Rows.{byRows, placeIn};
-ghost use Rattle.local.specs.Given.{OfScale, Municipal, OneOf, HasNumber, Reaches, IsNth, countBelow};
+ghost use Rattle.municipality.specs.Given.{OfScale};
+ghost use Rattle.local.specs.Given.{Municipal, OneOf, HasNumber, Reaches, IsNth, countBelow};
 
 // The place of a 1:2 000 sheet on the whole grid, counted by rows from the north, each row from the west. `across` is how many 1:50 000
 // sheets lie in a row, and each of them has `side` rows of as many parts.

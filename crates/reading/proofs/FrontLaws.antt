@@ -242,7 +242,7 @@ pub front-refused : (line : List ℕ) (why : Refusal) → readLabel (piece 32 li
 unfolding readFront
 front-refused line why e = asked-on why _ (sym e)
 
-pub front-sheet : (line : List ℕ) (x : Reach) {end : ℕ} → cornersAt x ≡ groundOf (first (x .scale) + x .index) → end ≡ length (piece 32 line)
-    → answer (first (x .scale) + x .index) ≡ readLabel (piece 32 line) → answer (frontAt x end) ≡ readFront line
+pub front-sheet : (line : List ℕ) (s : ℕ) (x : Reach) {end : ℕ} → cornersAt s x ≡ groundOf (first s + x .index) → end ≡ length (piece 32 line)
+    → answer (first s + x .index) ≡ readLabel (piece 32 line) → answer (frontAt s x end) ≡ readFront line
 unfolding readFront
-front-sheet line x {end} c l e = rw (← e, c, l)
+front-sheet line s x {end} c l e = rw (← e, c, l)

@@ -51,6 +51,6 @@ pub record IsScanned (bytes values : List ℕ) (r : Scanned) : Type 0 where
   pub within : r .end ≤ length bytes
   pub ends : (r .count ≡ 0 → ⊥) → r .end ≡ length (beginning isLabelByte bytes)
 
--- the sheet that reaches so far, its corners, and where its label ends
-abbrev pub frontAt : Reach → ℕ → Front
-frontAt at end = record { sheet = first (at .scale) + at .index; corners = cornersAt at; end = end }
+-- the sheet of a scale that reaches so far, its corners, and where its label ends
+abbrev pub frontAt : ℕ → Reach → ℕ → Front
+frontAt s at end = record { sheet = first s + at .index; corners = cornersAt s at; end = end }

@@ -34,12 +34,12 @@ fn edge(hundreds: u32) -> i64
     x as i64
 }
 
-// The sheet that reaches so far, behind a label that ends at a place.
-fn front_at(at: Reach, end: usize) -> Front
-    requires { ⌜ InReach at ⌝ }
-    ensures { λ r. ⌜ r ≡ frontAt at end ⌝ }
+// The sheet of a scale that reaches so far, behind a label that ends at a place.
+fn front_at(s: u32, at: Reach, end: usize) -> Front
+    requires { ⌜ InReach s at ⌝ }
+    ensures { λ r. ⌜ r ≡ frontAt s at end ⌝ }
 {
-    let t = Scale(at.scale).row();
+    let t = Scale(s).row();
     let sheet = t.first + at.index;
     let left = 2_000 + at.right;
     let top = 51_700 - at.down;
@@ -106,6 +106,6 @@ pub fn read_front(line: &[u8]) -> Fronted
     match sheet_named(&values[..count]) {
         Named::Unknown => Fronted::Refused(Refusal::NamesNoScale),
         Named::Out(i) => Fronted::Refused(Refusal::FieldRange(field_start(&line[..end], i))),
-        Named::Sheet(at) => Fronted::Label(front_at(at, end)),
+        Named::Sheet(s, at) => Fronted::Label(front_at(s, at, end)),
     }
 }

@@ -51,6 +51,6 @@ pub fn read_label(bytes: &[u8]) -> Found
     match sheet_named(&values[..count]) {
         Named::Unknown => Found::Refused(Refusal::NamesNoScale),
         Named::Out(i) => Found::Refused(Refusal::FieldRange(field_start(bytes, i))),
-        Named::Sheet(at) => Found::Sheet(Scale(at.scale).first() + at.index),
+        Named::Sheet(s, at) => Found::Sheet(Scale(s).first() + at.index),
     }
 }

@@ -83,46 +83,46 @@ abbrev pub partIn : ℕ → List ℕ → Bool
 partIn parts fs = between 1 parts (getD fs 0 0)
 
 -- what fields make of the area in c columns, and of a reach in k × k, for sheets that are so wide and so high
-abbrev areaReach : ℕ → ℕ → ℕ → ℕ → List ℕ → Reach
-areaReach s c w h fs =
+abbrev areaReach : ℕ → ℕ → ℕ → List ℕ → Reach
+areaReach c w h fs =
     let row = getD fs 0 0 - 101 in
     let column = getD fs 1 0 - 1 in
-    record { scale = s; index = row * c + column; right = column * w; down = row * h }
+    record { index = row * c + column; right = column * w; down = row * h }
 
-abbrev partReach : ℕ → ℕ → ℕ → ℕ → List ℕ → Reach → Reach
-partReach s k w h fs up =
+abbrev partReach : ℕ → ℕ → ℕ → List ℕ → Reach → Reach
+partReach k w h fs up =
     let j = getD fs 0 0 - 1 in
-    record { scale = s; index = up .index * (k * k) + j; right = up .right + j % k * w; down = up .down + j / k * h }
+    record { index = up .index * (k * k) + j; right = up .right + j % k * w; down = up .down + j / k * h }
 
-abbrev onPart : ℕ → ℕ → ℕ → ℕ → List ℕ → Reckoned → Reckoned
-onPart s k w h fs (At up) = At (partReach s k w h fs up)
-onPart s k w h fs (Out i) = Out (1 + i)
+abbrev onPart : ℕ → ℕ → ℕ → List ℕ → Reckoned → Reckoned
+onPart k w h fs (At up) = At (partReach k w h fs up)
+onPart k w h fs (Out i) = Out (1 + i)
 
-abbrev reckonBy : ℕ → Made → ℕ → ℕ → List ℕ → Reckoned
-reckonBy s m w h fs =
+abbrev reckonBy : Made → ℕ → ℕ → List ℕ → Reckoned
+reckonBy m w h fs =
     let p = placeFrom m fs in
-    cond (inRange m fs) (At (record { scale = s; index = indexAt m p; right = p .column * w; down = p .row * h })) (Out (firstOut m fs))
+    cond (inRange m fs) (At (record { index = indexAt m p; right = p .column * w; down = p .row * h })) (Out (firstOut m fs))
 
-reckon-area : (s r c w h : ℕ) (fs : List ℕ) → reckonBy s (ofArea r c) w h fs ≡ cond (rowIn r fs && columnIn c fs) (At (areaReach s c w h fs)) (Out (boolByte (rowIn r fs)))
+reckon-area : (r c w h : ℕ) (fs : List ℕ) → reckonBy (ofArea r c) w h fs ≡ cond (rowIn r fs && columnIn c fs) (At (areaReach c w h fs)) (Out (boolByte (rowIn r fs)))
 unfolding inRange firstOut ranges every firstNot indexAt placeFrom
-reckon-area s r c w h fs = by (rowIn r fs) (columnIn c fs)
+reckon-area r c w h fs = by (rowIn r fs) (columnIn c fs)
   where
-    by : (a b : Bool) → cond (a && (b && true)) (At (areaReach s c w h fs)) (Out (cond a (1 + cond b (1 + 0) 0) 0)) ≡ cond (a && b) (At (areaReach s c w h fs)) (Out (boolByte a))
+    by : (a b : Bool) → cond (a && (b && true)) (At (areaReach c w h fs)) (Out (cond a (1 + cond b (1 + 0) 0) 0)) ≡ cond (a && b) (At (areaReach c w h fs)) (Out (boolByte a))
     by true true = refl
     by true false = refl
     by false b = refl
 
-reach : (s : ℕ) {a b c d e f : ℕ} → a ≡ d → b ≡ e → c ≡ f → _≡_ {A = Reach} (record { scale = s; index = a; right = b; down = c }) (record { scale = s; index = d; right = e; down = f })
-reach s p q r = λ i. record { scale = s; index = p i; right = q i; down = r i }
+reach : {a b c d e f : ℕ} → a ≡ d → b ≡ e → c ≡ f → _≡_ {A = Reach} (record { index = a; right = b; down = c }) (record { index = d; right = e; down = f })
+reach p q r = λ i. record { index = p i; right = q i; down = r i }
 
 -- so far to the right, or down, in sizes and in those of what is above
 spread : (a k b size : ℕ) → (a * k + b) * size ≡ a * (k * size) + b * size
 spread a k b size = omega (arith, add-mul (a * k) b size, mul-assoc a k size)
 
-reckon-part : (s z : ℕ) (m : Made) (k w h : ℕ) (fs : List ℕ) → Sound (ofScale z m k)
-    → reckonBy s (ofScale z m k) w h fs ≡ cond (partIn (k * k) fs) (onPart s k w h fs (reckonBy z m (k * w) (k * h) (drop 1 fs))) (Out 0)
+reckon-part : (z : ℕ) (m : Made) (k w h : ℕ) (fs : List ℕ) → Sound (ofScale z m k)
+    → reckonBy (ofScale z m k) w h fs ≡ cond (partIn (k * k) fs) (onPart k w h fs (reckonBy m (k * w) (k * h) (drop 1 fs))) (Out 0)
 unfolding inRange firstOut ranges every firstNot placeFrom
-reckon-part s z m k w h fs sound = by (partIn (k * k) fs) refl (inRange m (drop 1 fs)) refl
+reckon-part z m k w h fs sound = by (partIn (k * k) fs) refl (inRange m (drop 1 fs)) refl
   where
     j : ℕ
     j = getD fs 0 0 - 1
@@ -131,14 +131,14 @@ reckon-part s z m k w h fs sound = by (partIn (k * k) fs) refl (inRange m (drop 
     up = placeFrom m (drop 1 fs)
 
     here : Reach
-    here = record { scale = s; index = indexAt (ofScale z m k) (placeFrom (ofScale z m k) fs); right = (up .column * k + j % k) * w; down = (up .row * k + j / k) * h }
+    here = record { index = indexAt (ofScale z m k) (placeFrom (ofScale z m k) fs); right = (up .column * k + j % k) * w; down = (up .row * k + j / k) * h }
 
     above : Reach
-    above = record { scale = z; index = indexAt m up; right = up .column * (k * w); down = up .row * (k * h) }
+    above = record { index = indexAt m up; right = up .column * (k * w); down = up .row * (k * h) }
 
     by : (a : Bool) → partIn (k * k) fs ≡ a → (b : Bool) → inRange m (drop 1 fs) ≡ b
-        → cond (a && b) (At here) (Out (cond a (1 + firstOut m (drop 1 fs)) 0)) ≡ cond a (onPart s k w h fs (cond b (At above) (Out (firstOut m (drop 1 fs))))) (Out 0)
-    by true e true f = ap At (reach s (index-part z m k fs sound (rw (e, f))) (spread (up .column) k (j % k) w) (spread (up .row) k (j / k) h))
+        → cond (a && b) (At here) (Out (cond a (1 + firstOut m (drop 1 fs)) 0)) ≡ cond a (onPart k w h fs (cond b (At above) (Out (firstOut m (drop 1 fs))))) (Out 0)
+    by true e true f = ap At (reach (index-part z m k fs sound (rw (e, f))) (spread (up .column) k (j % k) w) (spread (up .row) k (j / k) h))
     by true e false f = refl
     by false e b f = refl
 
@@ -146,20 +146,20 @@ reckon-part s z m k w h fs sound = by (partIn (k * k) fs) refl (inRange m (drop 
 
 -- the reach that fields make, at a scale that is made from the area and at one that is made from another
 abbrev pub topReach : ℕ → List ℕ → Reach
-topReach s fs = areaReach s (columns s) (width s / 100) (height s / 100) fs
+topReach s fs = areaReach (columns s) (width s / 100) (height s / 100) fs
 
 abbrev pub deepReach : ℕ → List ℕ → Reach → Reach
-deepReach s fs up = partReach s (side s) (width s / 100) (height s / 100) fs up
+deepReach s fs up = partReach (side s) (width s / 100) (height s / 100) fs up
 
 abbrev deepOn : ℕ → List ℕ → Reckoned → Reckoned
-deepOn s fs r = onPart s (side s) (width s / 100) (height s / 100) fs r
+deepOn s fs r = onPart (side s) (width s / 100) (height s / 100) fs r
 
-reckon-by : (s : ℕ) (fs : List ℕ) {m : Made} → made s ≡ m → reckon s fs ≡ reckonBy s m (width s / 100) (height s / 100) fs
+reckon-by : (s : ℕ) (fs : List ℕ) {m : Made} → made s ≡ m → reckon s fs ≡ reckonBy m (width s / 100) (height s / 100) fs
 unfolding reckon
-reckon-by s fs e = ap (λ (m : Made). reckonBy s m (width s / 100) (height s / 100) fs) e
+reckon-by s fs e = ap (λ (m : Made). reckonBy m (width s / 100) (height s / 100) fs) e
 
 -- the reach of a place of the grid is within the area
-reach-in : {s : ℕ} {p : Place} → OnGrid s p → InReach (reachOf s p)
+reach-in : {s : ℕ} {p : Place} → OnGrid s p → InReach s (reachOf s p)
 reach-in {s} {p} o =
     let z = sized (o .scale) in
     record {
@@ -169,10 +169,10 @@ reach-in {s} {p} o =
       high = ends-in (z .high) (p .row) (o .in-rows);
     }
 
-pub few-index : {x : Reach} → InReach x → x .index < 6_000_000
+pub few-index : {s : ℕ} {x : Reach} → InReach s x → x .index < 6_000_000
 few-index i = omega (arith, i .indexed, rules (i .scale) .few)
 
-pub few-sheet : {x : Reach} → InReach x → first (x .scale) + x .index < 7_953_174
+pub few-sheet : {s : ℕ} {x : Reach} → InReach s x → first s + x .index < 7_953_174
 few-sheet i = omega (arith, i .indexed, rules (i .scale) .low)
 
 -- the fields behind the first, as the code hands them on
@@ -202,8 +202,8 @@ module _ {s : ℕ} {fs : List ℕ} (h : Fields s fs) where
           record { place = p; on = record { scale = h .scale; in-rows = o .in-rows; in-columns = o .in-columns }; is = cc }
       by false t f = let z : _≡_ {A = ℕ} 0 1 = cc in absurd (omega arith)
 
-  reckon-reach : {x : Reach} → reckon s fs ≡ At x → InReach x
-  reckon-reach e = let r = reached e in subst InReach (r .is) (reach-in (r .on))
+  reckon-reach : {x : Reach} → reckon s fs ≡ At x → InReach s x
+  reckon-reach e = let r = reached e in subst (InReach s) (r .is) (reach-in (r .on))
 
   -- a field out of range is one of those there are
   pub out-few : {i : ℕ} → reckon s fs ≡ Out i → i < length fs
@@ -225,7 +225,7 @@ module _ {s : ℕ} {fs : List ℕ} (h : Fields s fs) where
     -- by the code's flags for the row and the column
     module _ {a b : Bool} (p : a ≡ rowIn (rows s) fs) (q : b ≡ columnIn (columns s) fs) where
       reckon-top : reckon s fs ≡ cond (a && b) (At (topReach s fs)) (Out (boolByte a))
-      reckon-top = reckon-by s fs (top (h .scale) e) ∙ reckon-area s (rows s) (columns s) (width s / 100) (height s / 100) fs ∙ rw (p, q)
+      reckon-top = reckon-by s fs (top (h .scale) e) ∙ reckon-area (rows s) (columns s) (width s / 100) (height s / 100) fs ∙ rw (p, q)
 
       pub top-out : not (a && b) ≡ true → Out (boolByte a) ≡ reckon s fs
       top-out f = sym (reckon-top ∙ rw (not-true (a && b) f))
@@ -234,7 +234,7 @@ module _ {s : ℕ} {fs : List ℕ} (h : Fields s fs) where
         pub top-at : At (topReach s fs) ≡ reckon s fs
         top-at = sym (reckon-top ∙ rw (not-false (a && b) f))
 
-        pub top-reach : InReach (topReach s fs)
+        pub top-reach : InReach s (topReach s fs)
         top-reach = reckon-reach (sym top-at)
 
         pub top-range : AreaRange (rows s) (columns s) fs
@@ -266,7 +266,7 @@ module _ {s : ℕ} {fs : List ℕ} (h : Fields s fs) where
     reckon-deep =
         let z = sized (h .scale) in
         let m = made (parentScale s) in
-        reckon-by s fs (deep (h .scale) e) ∙ reckon-part s (parentScale s) m (side s) (width s / 100) (height s / 100) fs (some-parts, rules (above (h .scale) e) .sound) ∙ rw (z .wide .parts, z .high .parts, ← reckon-by (parentScale s) (drop 1 fs) refl)
+        reckon-by s fs (deep (h .scale) e) ∙ reckon-part (parentScale s) m (side s) (width s / 100) (height s / 100) fs (some-parts, rules (above (h .scale) e) .sound) ∙ rw (z .wide .parts, z .high .parts, ← reckon-by (parentScale s) (drop 1 fs) refl)
 
     -- a number out of range is the first that is so, and one in range makes a part of what is above
     pub part-out : partIn (parts s) fs ≡ false → Out 0 ≡ reckon s fs
@@ -282,7 +282,7 @@ module _ {s : ℕ} {fs : List ℕ} (h : Fields s fs) where
       pub part-out-few : {i : ℕ} → reckon (parentScale s) (drop 1 fs) ≡ Out i → 1 + i < length fs
       part-out-few g = out-few (sym (part-on g))
 
-      pub part-reach : {up : Reach} → reckon (parentScale s) (drop 1 fs) ≡ At up → InReach (deepReach s fs up)
+      pub part-reach : {up : Reach} → reckon (parentScale s) (drop 1 fs) ≡ At up → InReach s (deepReach s fs up)
       part-reach g = reckon-reach (sym (part-on g))
 
 -- ---- from scale to scale
@@ -315,7 +315,7 @@ module _ {s : ℕ} (h : IsScale s) where
 next : (i size : ℕ) → i * size + size ≡ (i + 1) * size
 next i size = omega (arith, add-mul i 1 size)
 
-corners-reach : {s : ℕ} {p : Place} → OnGrid s p → cornersAt (reachOf s p) ≡ groundOf (sheetOf s p)
+corners-reach : {s : ℕ} {p : Place} → OnGrid s p → cornersAt s (reachOf s p) ≡ groundOf (sheetOf s p)
 unfolding edgesOf
 corners-reach {s} {p} o =
     let w = width s / 100 in
@@ -344,7 +344,7 @@ module _ (vs : List ℕ) where
   unfolding named
   named-not e = by (isScale scale) e
     where
-      by : (b : Bool) → cond b (Scale scale) Unknown ≡ Unknown → naming.Unknown ≡ cond b (counted (reckon scale (drop 1 vs))) naming.Unknown
+      by : (b : Bool) → cond b (Scale scale) Unknown ≡ Unknown → naming.Unknown ≡ cond b (counted scale (reckon scale (drop 1 vs))) naming.Unknown
       by true f = let z : _≡_ {A = ℕ} 0 1 = cc in absurd (omega arith)
       by false f = refl
 
@@ -356,7 +356,7 @@ module _ (vs : List ℕ) where
         by true f = (refl, cc)
         by false f = let z : _≡_ {A = ℕ} 0 1 = cc in absurd (omega arith)
 
-    pub named-by : {r : Reckoned} → reckon s (drop 1 vs) ≡ r → counted r ≡ named vs
+    pub named-by : {r : Reckoned} → reckon s (drop 1 vs) ≡ r → counted s r ≡ named vs
     unfolding named
     named-by f = let n = is-named in rw (n .0, n .1, f)
 
@@ -368,43 +368,36 @@ module _ (vs : List ℕ) where
         let m = labels.named (getD vs 0 0) (length vs) s scale-from in
         record { scale = m .scale; enough = omega (arith, m .count, length-drop 1 vs) }
 
--- numbers that name a sheet are those of a scale, which reach so far
-record Known (vs : List ℕ) (x : Reach) : Type 0 where
-  scale : ℕ
-  fields : Fields scale (drop 1 vs)
-  reckoned : reckon scale (drop 1 vs) ≡ At x
-
-module _ (vs : List ℕ) {x : Reach} (e : named vs ≡ naming.Sheet x) where
-  known : Known vs x
+module _ (vs : List ℕ) {s : ℕ} {x : Reach} (e : named vs ≡ naming.Sheet s x) where
+  known : Fields s (drop 1 vs) × (reckon s (drop 1 vs) ≡ At x)
   unfolding named
   known = by (isScale (scale vs)) refl e
     where
-      reaches : (r : Reckoned) → counted r ≡ naming.Sheet x → r ≡ At x
-      reaches (At y) f = let q : y ≡ x = cc in ap At q
-      reaches (Out i) f = let z : _≡_ {A = ℕ} 0 1 = cc in absurd (omega arith)
+      same : (r : Reckoned) → counted (scale vs) r ≡ naming.Sheet s x → (scale vs ≡ s) × (r ≡ At x)
+      same (At y) f = let q : y ≡ x = cc in (cc, ap At q)
+      same (Out i) f = let z : _≡_ {A = ℕ} 0 1 = cc in absurd (omega arith)
 
-      by : (b : Bool) → isScale (scale vs) ≡ b → cond b (counted (reckon (scale vs) (drop 1 vs))) naming.Unknown ≡ naming.Sheet x → Known vs x
-      by true t f = record { scale = scale vs; fields = fields-named vs (rw t); reckoned = reaches (reckon (scale vs) (drop 1 vs)) f }
+      by : (b : Bool) → isScale (scale vs) ≡ b → cond b (counted (scale vs) (reckon (scale vs) (drop 1 vs))) naming.Unknown ≡ naming.Sheet s x → Fields s (drop 1 vs) × (reckon s (drop 1 vs) ≡ At x)
+      by true t f = let g = same (reckon (scale vs) (drop 1 vs)) f in (fields-named vs (rw (t, g .0)), rw (g .0) at (g .1))
       by false t f = let z : _≡_ {A = ℕ} 0 1 = cc in absurd (omega arith)
 
-  pub named-reach : InReach x
-  named-reach = let k = known in reckon-reach (k .fields) (k .reckoned)
+  pub named-reach : InReach s x
+  named-reach = reckon-reach (known .0) (known .1)
 
-  pub named-corners : cornersAt x ≡ groundOf (first (x .scale) + x .index)
+  pub named-corners : cornersAt s x ≡ groundOf (first s + x .index)
   named-corners =
-      let k = known in
-      let r = reached (k .fields) (k .reckoned) in
-      subst (λ (x : Reach). cornersAt x ≡ groundOf (first (x .scale) + x .index)) (r .is) (corners-reach (r .on))
+      let r = reached (known .0) (known .1) in
+      subst (λ (x : Reach). cornersAt s x ≡ groundOf (first s + x .index)) (r .is) (corners-reach (r .on))
 
 -- ---- what a label names by its numbers
 
 -- the sheet, or "5: a label field out of range", or "21 an unknown first number or count of fields"
 abbrev pub onLabel : List ℕ → Named → Paper ℕ
-onLabel bytes (naming.Sheet x) = answer (first (x .scale) + x .index)
+onLabel bytes (naming.Sheet s x) = answer (first s + x .index)
 onLabel bytes (naming.Out i) = refused 5 (startOf i (split 45 bytes))
 onLabel bytes naming.Unknown = refused 21 0
 
-sheet-reckoned : (s : ℕ) (bytes : List ℕ) → sheetNamed s bytes ≡ onLabel bytes (counted (reckon s (drop 1 (numbersIn bytes))))
+sheet-reckoned : (s : ℕ) (bytes : List ℕ) → sheetNamed s bytes ≡ onLabel bytes (counted s (reckon s (drop 1 (numbersIn bytes))))
 unfolding sheetNamed reckon
 sheet-reckoned s bytes = by (inRange (made s) fs)
   where
@@ -414,7 +407,7 @@ sheet-reckoned s bytes = by (inRange (made s) fs)
     p : Place
     p = placeFrom (made s) fs
 
-    by : (b : Bool) → ((refuse 5 at startOf (1 + firstOut (made s) fs) (split 45 bytes) unless b) >> answer (sheetOf s p)) ≡ onLabel bytes (counted (cond b (At (reachOf s p)) (Out (firstOut (made s) fs))))
+    by : (b : Bool) → ((refuse 5 at startOf (1 + firstOut (made s) fs) (split 45 bytes) unless b) >> answer (sheetOf s p)) ≡ onLabel bytes (counted s (cond b (At (reachOf s p)) (Out (firstOut (made s) fs))))
     by true = refl
     by false = refl
 
@@ -425,6 +418,6 @@ label-named bytes w {r} e = ap (onLabel bytes) (sym e) ∙ by (isScale s) refl
     s : ℕ
     s = scale (numbersIn bytes)
 
-    by : (b : Bool) → isScale s ≡ b → onLabel bytes (cond b (counted (reckon s (drop 1 (numbersIn bytes)))) naming.Unknown) ≡ readLabel bytes
+    by : (b : Bool) → isScale s ≡ b → onLabel bytes (cond b (counted s (reckon s (drop 1 (numbersIn bytes)))) naming.Unknown) ≡ readLabel bytes
     by true t = sym (read-named bytes w s (rw t) ∙ sheet-reckoned s bytes)
     by false t = sym (read-none bytes w NamesNoScale (rw t))

@@ -22,17 +22,17 @@ pub record Fields (s : ℕ) (fields : List ℕ) : Type 0 where
   pub enough : countOf (made s) ≤ length fields
 
 -- an index of a scale, and a sheet of it within the area
-pub record InReach (at : Reach) : Type 0 where
-  pub scale : IsScale (at .scale)
-  pub indexed : at .index < sheets (at .scale)
-  pub wide : at .right + width (at .scale) / 100 ≤ 6_000
-  pub high : at .down + height (at .scale) / 100 ≤ 6_000
+pub record InReach (s : ℕ) (at : Reach) : Type 0 where
+  pub scale : IsScale s
+  pub indexed : at .index < sheets s
+  pub wide : at .right + width s / 100 ≤ 6_000
+  pub high : at .down + height s / 100 ≤ 6_000
 
--- the corners of the sheet that reaches so far
-abbrev pub cornersAt : Reach → Edges
-cornersAt at = record {
+-- the corners of the sheet of a scale that reaches so far
+abbrev pub cornersAt : ℕ → Reach → Edges
+cornersAt s at = record {
   west = pos ((2_000 + at .right) * 100_000);
-  east = pos ((2_000 + at .right + width (at .scale) / 100) * 100_000);
-  south = pos ((51_700 - at .down - height (at .scale) / 100) * 100_000);
+  east = pos ((2_000 + at .right + width s / 100) * 100_000);
+  south = pos ((51_700 - at .down - height s / 100) * 100_000);
   north = pos ((51_700 - at .down) * 100_000);
 }

@@ -15,19 +15,19 @@ use Rattle.reckoning.specs.declared.ground.Reckoned.the-variants.{At, Ou
 
 -- the index of a place of a scale, and how far its sheet lies from the area's corner, in hundreds of metres
 abbrev pub reachOf : ℕ → Place → Reach
-reachOf s p = record { scale = s; index = indexAt (made s) p; right = p .column * (width s / 100); down = p .row * (height s / 100) }
+reachOf s p = record { index = indexAt (made s) p; right = p .column * (width s / 100); down = p .row * (height s / 100) }
 
 -- that of the place that the fields behind the first number name at a scale, if all are in range, or else the first that is not
 unfoldable pub reckon : ℕ → List ℕ → Reckoned
 reckon s fields = cond (inRange (made s) fields) (At (reachOf s (placeFrom (made s) fields))) (Out (firstOut (made s) fields))
 
 -- the same of all numbers, the first among them
-abbrev pub counted : Reckoned → Named
-counted (At at) = naming.Sheet at
-counted (Out i) = naming.Out (1 + i)
+abbrev pub counted : ℕ → Reckoned → Named
+counted s (At at) = naming.Sheet s at
+counted s (Out i) = naming.Out (1 + i)
 
 -- "The first number and the count of fields together decide the scale"
 unfoldable pub named : List ℕ → Named
 named numbers =
     let s = scaleWith (getD numbers 0 0) (length numbers) in
-    cond (isScale s) (counted (reckon s (drop 1 numbers))) naming.Unknown
+    cond (isScale s) (counted s (reckon s (drop 1 numbers))) naming.Unknown

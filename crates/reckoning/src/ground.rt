@@ -53,7 +53,6 @@ fn by_area(s: u32, fields: &[u64]) -> Reckoned
     let right = beside * (t.width / 100);
     let down = below * (t.height / 100);
     Reckoned::At(Reach {
-        scale: s,
         index: index,
         right: right,
         down: down,
@@ -80,7 +79,6 @@ fn by_part(s: u32, fields: &[u64], above: Reckoned) -> Reckoned
             let right = up.right + j % t.side * (t.width / 100);
             let down = up.down + j / t.side * (t.height / 100);
             Reckoned::At(Reach {
-                scale: s,
                 index: index,
                 right: right,
                 down: down,

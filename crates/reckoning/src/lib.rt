@@ -10,18 +10,17 @@ ghost use Rattle.reckoning.specs.Reckoning.{named};
 mod ground;
 mod scale;
 
-// A sheet by its scale and its index there, and how far it lies to the right of the area's corner and below it, in hundreds of metres.
+// An index of a scale, and how far its sheet lies to the right of the area's corner and below it, in hundreds of metres.
 pub struct Reach {
-    pub scale: u32,
     pub index: u32,
     pub right: u32,
     pub down: u32,
 }
 
-// The sheet that numbers name, or the first of them that is out of range, counted from 0; or their first number and their count are none of those
-// known.
+// The sheet that numbers name, by its scale; or the first of them that is out of range, counted from 0; or their first number and their count
+// are none of those known.
 pub enum Named {
-    Sheet(Reach),
+    Sheet(u32, Reach),
     Out(usize),
     Unknown,
 }
@@ -38,7 +37,7 @@ pub fn sheet_named(numbers: &[u64]) -> Named
         Marked::Unknown => Named::Unknown,
         Marked::Scale(s) => match ground_from(s, &numbers[1..]) {
             Reckoned::Out(i) => Named::Out(1 + i),
-            Reckoned::At(at) => Named::Sheet(at),
+            Reckoned::At(at) => Named::Sheet(s, at),
         },
     }
 }

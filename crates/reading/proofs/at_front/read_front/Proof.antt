@@ -100,14 +100,14 @@ slice-aggregate-field-start c =
 field-start-requires : tie.Need-field-start-requires
 field-start-requires c κs = search needs
 
-enum-known-at : tie.Need-enum-known-at
-enum-known-at c = search needs
+enum-known-s : tie.Need-enum-known-s
+enum-known-s c = search needs
 
 front-at-requires : tie.Need-front-at-requires
 front-at-requires c κs =
     let a = c .before in
     let n = a .before .before in
-    named-reach (numbersIn (piece 32 (line (least (n .before .before .before .before .before))))) (told n ∙ a .at .given .1)
+    named-reach (numbersIn (piece 32 (line (least (n .before .before .before .before .before))))) (told n ∙ a .s .given .1)
 
 returns-2 : tie.Need-returns-2
 returns-2 c =
@@ -132,10 +132,10 @@ returns-4 c =
     let x = n .before .before in
     let d = x .before .before .before in
     let l = line (least d) in
-    let t = told n ∙ a .at .given .1 in
+    let t = told n ∙ a .s .given .1 in
     let e = sym (length-take-le (d .numbers-in .result .end) l (end-there l (bytes (least d)) (d .numbers-in .ensures))) ∙ ap length (read x .1) in
     ap answer (c .front-at .ensures)
-    ∙ front-sheet l (a .at .given .0 .0) (named-corners (numbersIn (piece 32 l)) t) e (label-named (piece 32 l) (read x .0 .formed) t)
+    ∙ front-sheet l (a .s .given .0 .0) (a .s .given .0 .1 .0) (named-corners (numbersIn (piece 32 l)) t) e (label-named (piece 32 l) (read x .0 .formed) t)
 
 pub read-front-spec : {M : Type 1} → statement M
 read-front-spec =
@@ -156,7 +156,7 @@ read-front-spec =
     enum-known-i
     slice-aggregate-field-start
     field-start-requires
-    enum-known-at
+    enum-known-s
     front-at-requires
     returns-2
     returns-3

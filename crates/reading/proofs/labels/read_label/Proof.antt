@@ -65,17 +65,17 @@ enum-known-i c = search needs
 field-start-requires : tie.Need-field-start-requires
 field-start-requires c κs = search needs
 
-enum-known-at : tie.Need-enum-known-at
-enum-known-at c = search needs
+enum-known-s : tie.Need-enum-known-s
+enum-known-s c = search needs
 
 first-requires : tie.Need-first-requires
 first-requires c κs = search needs
 
-add-t24 : tie.Need-add-t24
-add-t24 c =
+add-t25 : tie.Need-add-t25
+add-t25 c =
     let a = c .before .before .before in
     let n = a .before .before in
-    rw (c .before .first .ensures) (record { fits = omega (arith, few-sheet (named-reach (numbersIn (bytes (n .before .before .before .before .before))) (told n ∙ a .at .given .1))) })
+    rw (c .before .first .ensures) (record { fits = omega (arith, few-sheet (named-reach (numbersIn (bytes (n .before .before .before .before .before))) (told n ∙ a .s .given .1))) })
 
 returns-3 : tie.Need-returns-3
 returns-3 c =
@@ -96,8 +96,8 @@ returns-5 c =
     let a = f .before .before in
     let n = a .before .before in
     let x = n .before .before in
-    ap (λ (k : ℕ). answer (k + a .at .given .0 .0 .index)) (f .first .ensures)
-    ∙ label-named (bytes (x .before .before .before)) (read x .formed) (told n ∙ a .at .given .1)
+    ap (λ (k : ℕ). answer (k + a .s .given .0 .1 .0 .index)) (f .first .ensures)
+    ∙ label-named (bytes (x .before .before .before)) (read x .formed) (told n ∙ a .s .given .1)
 
 pub read-label-spec : {M : Type 1} → statement M
 read-label-spec =
@@ -114,9 +114,9 @@ read-label-spec =
     enum-told
     enum-known-i
     field-start-requires
-    enum-known-at
+    enum-known-s
     first-requires
-    add-t24
+    add-t25
     returns-3
     returns-4
     returns-5)

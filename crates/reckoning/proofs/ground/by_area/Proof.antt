@@ -44,7 +44,7 @@ returns c = let p = c .before in let s = start p in top-out (s .pre .0) (s .pre 
 range : (c : tie.Else1) → let a = start (c .before) .args in AreaRange (rows (a .s)) (columns (a .s)) (a .fields .now)
 range c = let p = c .before in let s = start p in top-range (s .pre .0) (s .pre .1) (on-row p) (on-column p) (c .if1 .left)
 
-reach : (c : tie.Else1) → let a = start (c .before) .args in InReach (topReach (a .s) (a .fields .now))
+reach : (c : tie.Else1) → let a = start (c .before) .args in InReach (a .s) (topReach (a .s) (a .fields .now))
 reach c = let p = c .before in let s = start p in top-reach (s .pre .0) (s .pre .1) (on-row p) (on-column p) (c .if1 .left)
 
 sub-below : tie.Need-sub-below

@@ -50,7 +50,7 @@ enum-known-above-2 c = search needs
 range : (c : tie.After-known-told2) → let a = start (c .before .before .before .before) .args in (1 ≤ getD (a .fields .now) 0 0) × (getD (a .fields .now) 0 0 ≤ parts (a .s))
 range c = let e = c .before .before .before in let s = start (e .before) in part-range (s .pre .0) (s .pre .1 .0) (on e)
 
-reach : (c : tie.After-known-told2) → let a = start (c .before .before .before .before) .args in InReach (deepReach (a .s) (a .fields .now) (c .before .above2 .given .0 .0))
+reach : (c : tie.After-known-told2) → let a = start (c .before .before .before .before) .args in InReach (a .s) (deepReach (a .s) (a .fields .now) (c .before .above2 .given .0 .0))
 reach c =
     let e = c .before .before .before in
     let s = start (e .before) in

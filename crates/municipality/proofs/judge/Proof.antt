@@ -5,9 +5,9 @@ use lib.ListN.{length}
 use Rattle.division.specs.Words.{between}
 use borrow.Author.Needs.{needs}
 use borrow.Author.Tests.{not-true, not-false}
-use Rattle.local.specs.Municipality.{municipality}
-use Rattle.local.proofs.municipality.judge.Statement.{statement}
-use Rattle.local.proofs.municipality.judge.Tie as tie
+use Rattle.municipality.specs.Municipality.{municipality}
+use Rattle.municipality.proofs.judge.Statement.{statement}
+use Rattle.municipality.proofs.judge.Tie as tie
 
 returns : tie.Need-returns
 unfolding municipality

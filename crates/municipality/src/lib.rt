@@ -1,4 +1,5 @@
-// The list of a municipality.
+// The list of a cadastral municipality (document 02, f): whether it is one, and whether a sheet is of it. How its sheets are numbered is
+// crates/local.
 use division::sheet::is_sheet;
 use division::table::Scale;
 use refusal::Judged;
@@ -6,7 +7,7 @@ use refusal::Refusal;
 ghost use mathlib.Core.Path.{_≡_};
 ghost use Rattle.refusal.specs.Numbers.{isIn, judgedPaper};
 ghost use Rattle.rising.specs.Rising.{risingFrom};
-ghost use Rattle.local.specs.Municipality.{of2000, municipality};
+ghost use Rattle.municipality.specs.Municipality.{of2000, municipality};
 
 // The refusal of the first faulty place, if there is one.
 fn places(sheets: &[u32]) -> Judged
@@ -34,7 +35,7 @@ fn places(sheets: &[u32]) -> Judged
 }
 
 // Whether a list is a municipality.
-pub(crate) fn judge(sheets: &[u32]) -> Judged
+pub fn judge(sheets: &[u32]) -> Judged
     ensures { λ r. ⌜ judgedPaper r ≡ municipality (now (sheets .entry)) ⌝ }
 {
     let n = sheets.len();
@@ -45,7 +46,7 @@ pub(crate) fn judge(sheets: &[u32]) -> Judged
 }
 
 // Whether a sheet is one of a list. The comparisons go on to the end, so that many are made at a time.
-pub(crate) fn has(sheets: &[u32], sheet: u32) -> bool
+pub fn has(sheets: &[u32], sheet: u32) -> bool
     ensures { λ r. ⌜ r ≡ isIn (now (sheets .entry)) sheet ⌝ }
 {
     let mut found = false;

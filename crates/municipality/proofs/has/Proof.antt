@@ -2,9 +2,9 @@
 use Prim.Native.Nat.{_-_}
 use borrow.Author.Needs.{needs}
 use lib.ListN.{length}
-use Rattle.local.proofs.CountLaws.{Seeking, seeking-first, seeking-next, seeking-done}
-use Rattle.local.proofs.municipality.has.Statement.{statement}
-use Rattle.local.proofs.municipality.has.Tie as tie
+use Rattle.municipality.proofs.SeekLaws.{Seeking, seeking-first, seeking-next, seeking-done}
+use Rattle.municipality.proofs.has.Statement.{statement}
+use Rattle.municipality.proofs.has.Tie as tie
 
 abbrev Inv-loop : tie.InvT-loop
 Inv-loop sheets sheet found₀ i₀ found i = Seeking sheets sheet found i

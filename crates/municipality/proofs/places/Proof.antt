@@ -11,12 +11,12 @@ use Rattle.refusal.proofs.PaperLaws.{fails, holds}
 use Rattle.rising.proofs.RisingLaws.{rising-done}
 use Rattle.division.specs.Words.{between}
 use Rattle.division.specs.Sheet.{isSheet}
-use Rattle.local.specs.Municipality.{of2000}
-use Rattle.local.specs.Given.{OfScale}
+use Rattle.municipality.specs.Municipality.{of2000}
+use Rattle.municipality.specs.Given.{OfScale}
 use Rattle.division.proofs.NumberLaws.{in-range}
-use Rattle.local.proofs.MunicipalityLaws.{seven, no-sheet, other-scale, Judging, judged-here, falls, goes-on}
-use Rattle.local.proofs.municipality.places.Statement.{statement}
-use Rattle.local.proofs.municipality.places.Tie as tie
+use Rattle.municipality.proofs.JudgeLaws.{seven, no-sheet, other-scale, Judging, judged-here, falls, goes-on}
+use Rattle.municipality.proofs.places.Statement.{statement}
+use Rattle.municipality.proofs.places.Tie as tie
 
 abbrev Inv-loop : tie.InvT-loop
 Inv-loop sheets f l least₀ i₀ least i = Judging sheets least i

@@ -1,0 +1,2 @@
+pub mod Municipality
+pub mod Given
