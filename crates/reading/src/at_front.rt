@@ -10,6 +10,7 @@ use fault::piece::piece_end;
 use fault::place::field_start;
 use reckoning::Named;
 use reckoning::Reach;
+use reckoning::Reckoned;
 use reckoning::sheet_named;
 use refusal::Refusal;
 ghost use mathlib.Core.Path.{_≡_};
@@ -105,7 +106,12 @@ pub fn read_front(line: &[u8]) -> Fronted
     }
     match sheet_named(&values[..count]) {
         Named::Unknown => Fronted::Refused(Refusal::NamesNoScale),
-        Named::Out(i) => Fronted::Refused(Refusal::FieldRange(field_start(&line[..end], i))),
-        Named::Sheet(s, at) => Fronted::Label(front_at(s, at, end)),
+        Named::Scale(s, made) => match made {
+            Reckoned::Out(i) => Fronted::Refused(Refusal::FieldRange(field_start(
+                &line[..end],
+                i + 1,
+            ))),
+            Reckoned::At(at) => Fronted::Label(front_at(s, at, end)),
+        },
     }
 }

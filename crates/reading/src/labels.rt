@@ -6,6 +6,7 @@ use fault::place::faulty_field;
 use fault::place::field_start;
 use fault::place::strange_byte;
 use reckoning::Named;
+use reckoning::Reckoned;
 use reckoning::sheet_named;
 use refusal::Refusal;
 ghost use mathlib.Core.Path.{_≡_};
@@ -50,7 +51,9 @@ pub fn read_label(bytes: &[u8]) -> Found
     }
     match sheet_named(&values[..count]) {
         Named::Unknown => Found::Refused(Refusal::NamesNoScale),
-        Named::Out(i) => Found::Refused(Refusal::FieldRange(field_start(bytes, i))),
-        Named::Sheet(s, at) => Found::Sheet(Scale(s).first() + at.index),
+        Named::Scale(s, made) => match made {
+            Reckoned::Out(i) => Found::Refused(Refusal::FieldRange(field_start(bytes, i + 1))),
+            Reckoned::At(at) => Found::Sheet(Scale(s).first() + at.index),
+        },
     }
 }

@@ -35,9 +35,9 @@ use Rattle.reckoning.specs.declared.Reach.{Reach}
 use Rattle.reckoning.specs.declared.Named.{Named}
 use Rattle.reckoning.specs.declared.Named.the-variants as naming
 use Rattle.reckoning.specs.declared.scale.Marked.the-variants.{Scale, Unknown}
-use Rattle.reckoning.specs.declared.ground.Reckoned.{Reckoned}
-use Rattle.reckoning.specs.declared.ground.Reckoned.the-variants.{At, Out}
-use Rattle.reckoning.specs.Reckoning.{reachOf, reckon, counted, named}
+use Rattle.reckoning.specs.declared.Reckoned.{Reckoned}
+use Rattle.reckoning.specs.declared.Reckoned.the-variants.{At, Out}
+use Rattle.reckoning.specs.Reckoning.{reachOf, reckon, named}
 use Rattle.reckoning.specs.Given.{marked, Fields, InReach, cornersAt}
 
 -- ---- sizes in hundreds of metres
@@ -206,7 +206,7 @@ module _ {s : ℕ} {fs : List ℕ} (h : Fields s fs) where
   reckon-reach e = let r = reached e in subst (InReach s) (r .is) (reach-in (r .on))
 
   -- a field out of range is one of those there are
-  pub out-few : {i : ℕ} → reckon s fs ≡ Out i → i < length fs
+  out-few : {i : ℕ} → reckon s fs ≡ Out i → i < length fs
   unfolding reckon inRange firstOut
   out-few {i} e = by (inRange (made s) fs) refl e
     where
@@ -344,7 +344,7 @@ module _ (vs : List ℕ) where
   unfolding named
   named-not e = by (isScale scale) e
     where
-      by : (b : Bool) → cond b (Scale scale) Unknown ≡ Unknown → naming.Unknown ≡ cond b (counted scale (reckon scale (drop 1 vs))) naming.Unknown
+      by : (b : Bool) → cond b (Scale scale) Unknown ≡ Unknown → naming.Unknown ≡ cond b (naming.Scale scale (reckon scale (drop 1 vs))) naming.Unknown
       by true f = let z : _≡_ {A = ℕ} 0 1 = cc in absurd (omega arith)
       by false f = refl
 
@@ -356,9 +356,9 @@ module _ (vs : List ℕ) where
         by true f = (refl, cc)
         by false f = let z : _≡_ {A = ℕ} 0 1 = cc in absurd (omega arith)
 
-    pub named-by : {r : Reckoned} → reckon s (drop 1 vs) ≡ r → counted s r ≡ named vs
+    pub named-by : naming.Scale s (reckon s (drop 1 vs)) ≡ named vs
     unfolding named
-    named-by f = let n = is-named in rw (n .0, n .1, f)
+    named-by = let n = is-named in rw (n .0, n .1)
 
     scale-from : scaleFrom vs ≡ answer s
     scale-from = let n = is-named in rw (n .0, n .1)
@@ -368,36 +368,44 @@ module _ (vs : List ℕ) where
         let m = labels.named (getD vs 0 0) (length vs) s scale-from in
         record { scale = m .scale; enough = omega (arith, m .count, length-drop 1 vs) }
 
-module _ (vs : List ℕ) {s : ℕ} {x : Reach} (e : named vs ≡ naming.Sheet s x) where
-  known : Fields s (drop 1 vs) × (reckon s (drop 1 vs) ≡ At x)
+-- what is made at a scale is made by the numbers behind the first, and these are as many as its labels have
+module _ (vs : List ℕ) {s : ℕ} where
+  known : {r : Reckoned} → named vs ≡ naming.Scale s r → Fields s (drop 1 vs) × (reckon s (drop 1 vs) ≡ r)
   unfolding named
-  known = by (isScale (scale vs)) refl e
+  known {r} e = by (isScale (scale vs)) refl e
     where
-      same : (r : Reckoned) → counted (scale vs) r ≡ naming.Sheet s x → (scale vs ≡ s) × (r ≡ At x)
-      same (At y) f = let q : y ≡ x = cc in (cc, ap At q)
-      same (Out i) f = let z : _≡_ {A = ℕ} 0 1 = cc in absurd (omega arith)
-
-      by : (b : Bool) → isScale (scale vs) ≡ b → cond b (counted (scale vs) (reckon (scale vs) (drop 1 vs))) naming.Unknown ≡ naming.Sheet s x → Fields s (drop 1 vs) × (reckon s (drop 1 vs) ≡ At x)
-      by true t f = let g = same (reckon (scale vs) (drop 1 vs)) f in (fields-named vs (rw (t, g .0)), rw (g .0) at (g .1))
+      by : (b : Bool) → isScale (scale vs) ≡ b → cond b (naming.Scale (scale vs) (reckon (scale vs) (drop 1 vs))) naming.Unknown ≡ naming.Scale s r → Fields s (drop 1 vs) × (reckon s (drop 1 vs) ≡ r)
+      by true t f =
+          let e : scale vs ≡ s = cc in
+          let g : reckon (scale vs) (drop 1 vs) ≡ r = cc in
+          (fields-named vs (rw (t, e)), rw e at g)
       by false t f = let z : _≡_ {A = ℕ} 0 1 = cc in absurd (omega arith)
 
-  pub named-reach : InReach s x
-  named-reach = reckon-reach (known .0) (known .1)
+  pub named-out : {i : ℕ} → named vs ≡ naming.Scale s (Out i) → i < length (drop 1 vs)
+  named-out e = out-few (known e .0) (known e .1)
 
-  pub named-corners : cornersAt s x ≡ groundOf (first s + x .index)
-  named-corners =
-      let r = reached (known .0) (known .1) in
-      subst (λ (x : Reach). cornersAt s x ≡ groundOf (first s + x .index)) (r .is) (corners-reach (r .on))
+  module _ {x : Reach} (e : named vs ≡ naming.Scale s (At x)) where
+    pub named-reach : InReach s x
+    named-reach = reckon-reach (known e .0) (known e .1)
+
+    pub named-corners : cornersAt s x ≡ groundOf (first s + x .index)
+    named-corners =
+        let r = reached (known e .0) (known e .1) in
+        subst (λ (x : Reach). cornersAt s x ≡ groundOf (first s + x .index)) (r .is) (corners-reach (r .on))
 
 -- ---- what a label names by its numbers
 
 -- the sheet, or "5: a label field out of range", or "21 an unknown first number or count of fields"
 abbrev pub onLabel : List ℕ → Named → Paper ℕ
-onLabel bytes (naming.Sheet s x) = answer (first s + x .index)
-onLabel bytes (naming.Out i) = refused 5 (startOf i (split 45 bytes))
+onLabel bytes (naming.Scale s (At x)) = answer (first s + x .index)
+onLabel bytes (naming.Scale s (Out i)) = refused 5 (startOf (1 + i) (split 45 bytes))
 onLabel bytes naming.Unknown = refused 21 0
 
-sheet-reckoned : (s : ℕ) (bytes : List ℕ) → sheetNamed s bytes ≡ onLabel bytes (counted s (reckon s (drop 1 (numbersIn bytes))))
+-- the field out of range, as the code counts it
+pub field-at : (bytes : List ℕ) (i : ℕ) {k : ℕ} → k ≡ startOf (i + 1) (split 45 bytes) → _≡_ {A = Paper ℕ} (refused 5 k) (refused 5 (startOf (1 + i) (split 45 bytes)))
+field-at bytes i e = let q : i + 1 ≡ 1 + i = omega arith in ap (refused 5) (e ∙ ap (λ (n : ℕ). startOf n (split 45 bytes)) q)
+
+sheet-reckoned : (s : ℕ) (bytes : List ℕ) → sheetNamed s bytes ≡ onLabel bytes (naming.Scale s (reckon s (drop 1 (numbersIn bytes))))
 unfolding sheetNamed reckon
 sheet-reckoned s bytes = by (inRange (made s) fs)
   where
@@ -407,7 +415,7 @@ sheet-reckoned s bytes = by (inRange (made s) fs)
     p : Place
     p = placeFrom (made s) fs
 
-    by : (b : Bool) → ((refuse 5 at startOf (1 + firstOut (made s) fs) (split 45 bytes) unless b) >> answer (sheetOf s p)) ≡ onLabel bytes (counted s (cond b (At (reachOf s p)) (Out (firstOut (made s) fs))))
+    by : (b : Bool) → ((refuse 5 at startOf (1 + firstOut (made s) fs) (split 45 bytes) unless b) >> answer (sheetOf s p)) ≡ onLabel bytes (naming.Scale s (cond b (At (reachOf s p)) (Out (firstOut (made s) fs))))
     by true = refl
     by false = refl
 
@@ -418,6 +426,6 @@ label-named bytes w {r} e = ap (onLabel bytes) (sym e) ∙ by (isScale s) refl
     s : ℕ
     s = scale (numbersIn bytes)
 
-    by : (b : Bool) → isScale s ≡ b → onLabel bytes (cond b (counted s (reckon s (drop 1 (numbersIn bytes)))) naming.Unknown) ≡ readLabel bytes
+    by : (b : Bool) → isScale s ≡ b → onLabel bytes (cond b (naming.Scale s (reckon s (drop 1 (numbersIn bytes)))) naming.Unknown) ≡ readLabel bytes
     by true t = sym (read-named bytes w s (rw t) ∙ sheet-reckoned s bytes)
     by false t = sym (read-none bytes w NamesNoScale (rw t))

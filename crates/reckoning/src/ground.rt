@@ -1,6 +1,7 @@
 // What the fields behind a label's first number make at a scale, by way of its parents: an index, and how far the sheet lies from the area's
 // corner. Each scale has an arm of its own, so that a compiled program works with numbers that it knows.
 use crate::Reach;
+use crate::Reckoned;
 use division::table::Scale;
 ghost use mathlib.Core.Path.{_≡_};
 ghost use Prim.Native.Nat.{_+_};
@@ -9,12 +10,6 @@ ghost use Rattle.division.specs.Words.{between};
 ghost use Rattle.division.specs.Table.{parentScale};
 ghost use Rattle.reckoning.specs.Reckoning.{reckon};
 ghost use Rattle.reckoning.specs.Given.{Fields};
-
-// What fields make, or the first of them that is out of range, counted from 0 behind the first number.
-pub enum Reckoned {
-    At(Reach),
-    Out(usize),
-}
 
 // Is a number that of one of so many parts?
 fn is_part(parts: u32, number: u64) -> bool

@@ -1,6 +1,5 @@
 // What the numbers of a label's fields name (document 01, "Labels"): a scale, by the first of them and their count, and by the others a sheet of
 // it: its index, and how far it lies from the area's corner. That they stand in a label, and where, is crates/reading.
-use crate::ground::Reckoned;
 use crate::ground::ground_from;
 use crate::scale::Marked;
 use crate::scale::scale_named;
@@ -17,11 +16,15 @@ pub struct Reach {
     pub down: u32,
 }
 
-// The sheet that numbers name, by its scale; or the first of them that is out of range, counted from 0; or their first number and their count
-// are none of those known.
-pub enum Named {
-    Sheet(u32, Reach),
+// What the numbers behind the first make at a scale, or the first of them that is out of range, counted from 0.
+pub enum Reckoned {
+    At(Reach),
     Out(usize),
+}
+
+// The scale that numbers name, and what they make there; or their first number and their count are none of those known.
+pub enum Named {
+    Scale(u32, Reckoned),
     Unknown,
 }
 
@@ -35,9 +38,6 @@ pub fn sheet_named(numbers: &[u64]) -> Named
     let first = numbers[0];
     match scale_named(first, count) {
         Marked::Unknown => Named::Unknown,
-        Marked::Scale(s) => match ground_from(s, &numbers[1..]) {
-            Reckoned::Out(i) => Named::Out(1 + i),
-            Reckoned::At(at) => Named::Sheet(s, at),
-        },
+        Marked::Scale(s) => Named::Scale(s, ground_from(s, &numbers[1..])),
     }
 }

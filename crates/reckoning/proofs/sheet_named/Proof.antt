@@ -1,12 +1,13 @@
--- The first number and the count name a scale, and the others a sheet of it. Assumes nothing.
+-- The first number and the count name a scale, and the others make what they make there. Assumes nothing.
 use mathlib.Core.Path.{_≡_, sym, ap, _∙_}
-use native.Mathlib.Omega.{arith}
 use borrow.Author.Needs.{needs}
-use lib.ListN.{length, getD, drop, length-drop}
+use lib.ListN.{length, getD}
+use Rattle.reckoning.specs.declared.Reckoned.{Reckoned}
+use Rattle.reckoning.specs.declared.Named.the-variants as naming
 use Rattle.reckoning.specs.declared.scale.Marked.the-variants.{Scale}
 use Rattle.reckoning.specs.Reckoning.{reckon}
 use Rattle.reckoning.specs.Given.{marked}
-use Rattle.reckoning.proofs.ReckonLaws.{others-are, out-few, named-none, named-not, named-by, fields-named}
+use Rattle.reckoning.proofs.ReckonLaws.{others-are, named-none, named-not, named-by, fields-named}
 use Rattle.reckoning.proofs.sheet_named.Statement.{statement}
 use Rattle.reckoning.proofs.sheet_named.Tie as tie
 
@@ -44,27 +45,6 @@ ground-from-requires c κs =
     let vs = s .before .before .before .before .before .before .args .numbers .now in
     rw (others-are vs) (fields-named vs (scale s))
 
--- what its fields make
-made : (c : tie.After-ground-from) → let s = c .before .before .before in let vs = s .before .before .before .before .before .before .args .numbers .now in reckon (s .s .given .0 .0) (drop 1 vs) ≡ c .ground-from .result
-made c =
-    let s = c .before .before .before in
-    let vs = s .before .before .before .before .before .before .args .numbers .now in
-    sym (c .ground-from .ensures ∙ ap (reckon (s .s .given .0 .0)) (others-are vs))
-
-enum-known-i : tie.Need-enum-known-i
-enum-known-i c = search needs
-
-add-t18 : tie.Need-add-t18
-add-t18 c =
-    let i = c .before in
-    let g = i .before .before in
-    let s = g .before .before .before in
-    let vs = s .before .before .before .before .before .before .args .numbers .now in
-    omega (arith, length-drop 1 vs, out-few (fields-named vs (scale s)) (made g ∙ i .i .given .1))
-
-enum-known-at : tie.Need-enum-known-at
-enum-known-at c = search needs
-
 returns-2 : tie.Need-returns-2
 returns-2 c =
     let m = c .before .before in
@@ -72,17 +52,10 @@ returns-2 c =
 
 returns-3 : tie.Need-returns-3
 returns-3 c =
-    let i = c .before in
-    let g = i .before .before in
-    let s = g .before .before .before in
-    named-by (s .before .before .before .before .before .before .args .numbers .now) (scale s) (made g ∙ i .i .given .1)
-
-returns-4 : tie.Need-returns-4
-returns-4 c =
-    let a = c .before in
-    let g = a .before .before in
-    let s = g .before .before .before in
-    named-by (s .before .before .before .before .before .before .args .numbers .now) (scale s) (made g ∙ a .at .given .1)
+    let s = c .before .before .before in
+    let n = s .s .given .0 .0 in
+    let vs = s .before .before .before .before .before .before .args .numbers .now in
+    ap (λ (r : Reckoned). naming.Scale n r) (c .ground-from .ensures ∙ ap (reckon n) (others-are vs)) ∙ named-by vs (scale s)
 
 pub sheet-named-spec : {M : Type 1} → statement M
 sheet-named-spec =
@@ -97,9 +70,5 @@ sheet-named-spec =
     part-ground-from-start
     part-ground-from-end
     ground-from-requires
-    enum-known-i
-    add-t18
-    enum-known-at
     returns-2
-    returns-3
-    returns-4)
+    returns-3)

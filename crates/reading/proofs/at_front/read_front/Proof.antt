@@ -5,17 +5,18 @@ use mathlib.Core.List.{List}
 use Prim.Native.Nat.{ℕ}
 use native.Mathlib.Omega.{arith}
 use borrow.Author.Needs.{needs}
-use lib.ListN.{length, take, length-take}
+use lib.ListN.{length, take, length-take, length-drop}
 use lib.Seq.{length-take-le}
 use Rattle.refusal.specs.declared.Refusal.the-variants.{NamesNoScale, FieldRange}
-use Rattle.refusal.specs.Paper.{answer, refused}
+use Rattle.refusal.specs.Paper.{answer}
 use Rattle.refusal.proofs.PaperLaws.{fails, holds}
-use Rattle.label.specs.Text.{split}
-use Rattle.label.specs.Label.{formed, numbersIn, startOf}
+use Rattle.label.specs.Label.{formed, numbersIn}
 use Rattle.label.proofs.PieceLaws.{piece}
 use Rattle.label.proofs.NamedLaws.{read-unformed}
+use Rattle.reckoning.specs.declared.Reckoned.{Reckoned}
+use Rattle.reckoning.specs.declared.Named.the-variants as naming
 use Rattle.reckoning.specs.Reckoning.{named}
-use Rattle.reckoning.proofs.ReckonLaws.{named-reach, named-corners, label-named}
+use Rattle.reckoning.proofs.ReckonLaws.{named-out, named-reach, named-corners, field-at, label-named}
 use Rattle.reading.proofs.FrontLaws.{Read, first-bytes, end-there, front-read, front-faulty, same-fault, front-refused, front-sheet}
 use Rattle.reading.proofs.at_front.read_front.Statement.{statement}
 use Rattle.reading.proofs.at_front.read_front.Tie as tie
@@ -27,8 +28,8 @@ line c = c .before .before .args .line .now
 bytes : (c : tie.After-least) → take (c .least .result) (line c) ≡ take 17 (line c)
 bytes c = ap (λ (n : ℕ). take n (line c)) (c .least .ensures) ∙ first-bytes (line c)
 
-long : (c : tie.After-least) → c .least .result ≡ length (take (c .least .result) (line c))
-long c = omega (arith, c .least .ensures, length-take (c .least .result) (line c))
+most : (c : tie.After-least) → c .least .result ≡ length (take (c .least .result) (line c))
+most c = omega (arith, c .least .ensures, length-take (c .least .result) (line c))
 
 abbrev least : tie.After-numbers-in → tie.After-least
 least c = c .before .before .before
@@ -49,20 +50,20 @@ least-requires : tie.Need-least-requires
 least-requires c κs = search needs
 
 slice-aggregate-numbers-in : tie.Need-slice-aggregate-numbers-in
-slice-aggregate-numbers-in c = long (c .before)
+slice-aggregate-numbers-in c = most (c .before)
 
 slice-aggregate-numbers-in-2 : tie.Need-slice-aggregate-numbers-in-2
 slice-aggregate-numbers-in-2 c = search needs
 
 numbers-in-requires : tie.Need-numbers-in-requires
 numbers-in-requires c κs =
-    let l = c .before .before in (omega (arith, l .least .ensures, long l), refl)
+    let l = c .before .before in (omega (arith, l .least .ensures, most l), refl)
 
 is-end-requires : tie.Need-is-end-requires
 is-end-requires c κs = let d = c .before in end-there (line (least d)) (bytes (least d)) (d .numbers-in .ensures)
 
 slice-aggregate-front-fault : tie.Need-slice-aggregate-front-fault
-slice-aggregate-front-fault c = long (least (c .before .before .before .before))
+slice-aggregate-front-fault c = most (least (c .before .before .before .before))
 
 front-fault-requires : tie.Need-front-fault-requires
 front-fault-requires c κs =
@@ -89,25 +90,44 @@ sheet-named-requires c κs = search needs
 enum-told : tie.Need-enum-told
 enum-told c = search needs
 
-enum-known-i : tie.Need-enum-known-i
-enum-known-i c = search needs
+enum-known-s : tie.Need-enum-known-s
+enum-known-s c = search needs
+
+-- and what is made at the scale
+made : (c : tie.After-s) {r : Reckoned} → c .s .given .0 .1 .0 ≡ r → named (numbersIn (piece 32 (line (least (c .before .before .before .before .before .before .before))))) ≡ naming.Scale (c .s .given .0 .0) r
+made c e = told (c .before .before) ∙ c .s .given .1 ∙ ap (λ (r : Reckoned). naming.Scale (c .s .given .0 .0) r) e
+
+-- the label is what stands before its end
+long : (c : tie.After-numbers-in) → let l = line (least c) in c .numbers-in .result .end ≡ length (take (c .numbers-in .result .end) l)
+long c = let l = line (least c) in sym (length-take-le (c .numbers-in .result .end) l (end-there l (bytes (least c)) (c .numbers-in .ensures)))
+
+enum-known-made : tie.Need-enum-known-made
+enum-known-made c = search needs
 
 slice-aggregate-field-start : tie.Need-slice-aggregate-field-start
-slice-aggregate-field-start c =
-    let d = c .before .before .before .before .before .before .before .before .before in
-    sym (length-take-le (d .numbers-in .result .end) (line (least d)) (end-there (line (least d)) (bytes (least d)) (d .numbers-in .ensures)))
+slice-aggregate-field-start c = long (c .before .before .before .before .before .before .before .before .before .before .before .before)
+
+add-field-start : tie.Need-add-field-start
+add-field-start c =
+    let m = c .before .before in
+    let s = m .before .before .before in
+    let x = s .before .before .before .before in
+    let d = x .before .before .before in
+    let h = d .numbers-in .ensures .held in
+    let vs = numbersIn (piece 32 (line (least d))) in
+    omega (arith, named-out vs (made s (m .made .given .1)), length-drop 1 vs, h .counted, ap length (read x .0 .numbers), h .within)
 
 field-start-requires : tie.Need-field-start-requires
 field-start-requires c κs = search needs
 
-enum-known-s : tie.Need-enum-known-s
-enum-known-s c = search needs
+enum-known-made-2 : tie.Need-enum-known-made-2
+enum-known-made-2 c = search needs
 
 front-at-requires : tie.Need-front-at-requires
 front-at-requires c κs =
-    let a = c .before in
-    let n = a .before .before in
-    named-reach (numbersIn (piece 32 (line (least (n .before .before .before .before .before))))) (told n ∙ a .s .given .1)
+    let m = c .before in
+    let s = m .before .before .before in
+    named-reach (numbersIn (piece 32 (line (least (s .before .before .before .before .before .before .before))))) (made s (m .made2 .given .1))
 
 returns-2 : tie.Need-returns-2
 returns-2 c =
@@ -118,24 +138,23 @@ returns-2 c =
 
 returns-3 : tie.Need-returns-3
 returns-3 c =
-    let i = c .before .before .before in
-    let n = i .before .before in
-    let x = n .before .before in
+    let m = c .before .before .before in
+    let s = m .before .before .before in
+    let x = s .before .before .before .before in
     let l = line (least (x .before .before .before)) in
-    let e = c .field-start .ensures ∙ ap (λ (s : List ℕ). startOf (i .i .given .0 .0) (split 45 s)) (read x .1) in
-    front-refused l (FieldRange (c .field-start .result)) (sym (ap (refused 5) e ∙ label-named (piece 32 l) (read x .0 .formed) (told n ∙ i .i .given .1)))
+    let e = field-at (piece 32 l) (m .made .given .0 .0) (rw (read x .1) at (c .field-start .ensures)) in
+    front-refused l (FieldRange (c .field-start .result)) (sym (e ∙ label-named (piece 32 l) (read x .0 .formed) (made s (m .made .given .1))))
 
 returns-4 : tie.Need-returns-4
 returns-4 c =
-    let a = c .before .before in
-    let n = a .before .before in
-    let x = n .before .before in
+    let m = c .before .before in
+    let s = m .before .before .before in
+    let x = s .before .before .before .before in
     let d = x .before .before .before in
     let l = line (least d) in
-    let t = told n ∙ a .s .given .1 in
-    let e = sym (length-take-le (d .numbers-in .result .end) l (end-there l (bytes (least d)) (d .numbers-in .ensures))) ∙ ap length (read x .1) in
+    let t = made s (m .made2 .given .1) in
     ap answer (c .front-at .ensures)
-    ∙ front-sheet l (a .s .given .0 .0) (a .s .given .0 .1 .0) (named-corners (numbersIn (piece 32 l)) t) e (label-named (piece 32 l) (read x .0 .formed) t)
+    ∙ front-sheet l (s .s .given .0 .0) (m .made2 .given .0 .0) (named-corners (numbersIn (piece 32 l)) t) (long d ∙ ap length (read x .1)) (label-named (piece 32 l) (read x .0 .formed) t)
 
 pub read-front-spec : {M : Type 1} → statement M
 read-front-spec =
@@ -153,10 +172,12 @@ read-front-spec =
     slice-aggregate-sheet-named
     sheet-named-requires
     enum-told
-    enum-known-i
-    slice-aggregate-field-start
-    field-start-requires
     enum-known-s
+    enum-known-made
+    slice-aggregate-field-start
+    add-field-start
+    field-start-requires
+    enum-known-made-2
     front-at-requires
     returns-2
     returns-3

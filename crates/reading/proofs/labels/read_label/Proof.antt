@@ -4,15 +4,18 @@ use mathlib.Core.List.{List}
 use Prim.Native.Nat.{ℕ, _+_}
 use native.Mathlib.Omega.{arith}
 use borrow.Author.Needs.{needs}
+use lib.ListN.{length, length-drop}
 use lib.Seq.{length-take-le}
 use Rattle.refusal.specs.declared.Refusal.the-variants.{LabelLength}
-use Rattle.refusal.specs.Paper.{answer, refused}
+use Rattle.refusal.specs.Paper.{answer}
 use Rattle.refusal.proofs.PaperLaws.{fails, holds}
 use Rattle.label.specs.Label.{numbersIn}
 use Rattle.label.proofs.FormLaws.{long-form}
 use Rattle.label.proofs.NamedLaws.{read-unformed}
+use Rattle.reckoning.specs.declared.Reckoned.{Reckoned}
+use Rattle.reckoning.specs.declared.Named.the-variants as naming
 use Rattle.reckoning.specs.Reckoning.{named}
-use Rattle.reckoning.proofs.ReckonLaws.{few-sheet, named-reach, label-named}
+use Rattle.reckoning.proofs.ReckonLaws.{few-sheet, named-out, named-reach, field-at, label-named}
 use Rattle.reading.proofs.FrontLaws.{Read, label-read, label-faulty}
 use Rattle.reading.proofs.labels.read_label.Statement.{statement}
 use Rattle.reading.proofs.labels.read_label.Tie as tie
@@ -59,23 +62,41 @@ sheet-named-requires c κs = search needs
 enum-told : tie.Need-enum-told
 enum-told c = search needs
 
-enum-known-i : tie.Need-enum-known-i
-enum-known-i c = search needs
+enum-known-s : tie.Need-enum-known-s
+enum-known-s c = search needs
+
+-- and what is made at the scale
+made : (c : tie.After-s) {r : Reckoned} → c .s .given .0 .1 .0 ≡ r → named (numbersIn (bytes (c .before .before .before .before .before .before .before))) ≡ naming.Scale (c .s .given .0 .0) r
+made c e = told (c .before .before) ∙ c .s .given .1 ∙ ap (λ (r : Reckoned). naming.Scale (c .s .given .0 .0) r) e
+
+enum-known-made : tie.Need-enum-known-made
+enum-known-made c = search needs
+
+add-field-start : tie.Need-add-field-start
+add-field-start c =
+    let m = c .before in
+    let s = m .before .before .before in
+    let x = s .before .before .before .before in
+    let d = x .before .before .before in
+    let h = d .numbers-in .ensures .held in
+    let vs = numbersIn (bytes d) in
+    omega (arith, named-out vs (made s (m .made .given .1)), length-drop 1 vs, h .counted, ap length (read x .numbers), h .within)
 
 field-start-requires : tie.Need-field-start-requires
 field-start-requires c κs = search needs
 
-enum-known-s : tie.Need-enum-known-s
-enum-known-s c = search needs
+enum-known-made-2 : tie.Need-enum-known-made-2
+enum-known-made-2 c = search needs
 
 first-requires : tie.Need-first-requires
 first-requires c κs = search needs
 
-add-t25 : tie.Need-add-t25
-add-t25 c =
-    let a = c .before .before .before in
-    let n = a .before .before in
-    rw (c .before .first .ensures) (record { fits = omega (arith, few-sheet (named-reach (numbersIn (bytes (n .before .before .before .before .before))) (told n ∙ a .s .given .1))) })
+add-t28 : tie.Need-add-t28
+add-t28 c =
+    let m = c .before .before .before in
+    let s = m .before .before .before in
+    let vs = numbersIn (bytes (s .before .before .before .before .before .before .before)) in
+    rw (c .before .first .ensures) (record { fits = omega (arith, few-sheet (named-reach vs (made s (m .made2 .given .1)))) })
 
 returns-3 : tie.Need-returns-3
 returns-3 c =
@@ -85,19 +106,20 @@ returns-3 c =
 
 returns-4 : tie.Need-returns-4
 returns-4 c =
-    let i = c .before .before in
-    let n = i .before .before in
-    let x = n .before .before in
-    ap (refused 5) (c .field-start .ensures) ∙ label-named (bytes (x .before .before .before)) (read x .formed) (told n ∙ i .i .given .1)
+    let m = c .before .before in
+    let s = m .before .before .before in
+    let x = s .before .before .before .before in
+    let l = bytes (x .before .before .before) in
+    field-at l (m .made .given .0 .0) (c .field-start .ensures) ∙ label-named l (read x .formed) (made s (m .made .given .1))
 
 returns-5 : tie.Need-returns-5
 returns-5 c =
     let f = c .before in
-    let a = f .before .before in
-    let n = a .before .before in
-    let x = n .before .before in
-    ap (λ (k : ℕ). answer (k + a .s .given .0 .1 .0 .index)) (f .first .ensures)
-    ∙ label-named (bytes (x .before .before .before)) (read x .formed) (told n ∙ a .s .given .1)
+    let m = f .before .before in
+    let s = m .before .before .before in
+    let x = s .before .before .before .before in
+    ap (λ (k : ℕ). answer (k + m .made2 .given .0 .0 .index)) (f .first .ensures)
+    ∙ label-named (bytes (x .before .before .before)) (read x .formed) (made s (m .made2 .given .1))
 
 pub read-label-spec : {M : Type 1} → statement M
 read-label-spec =
@@ -112,11 +134,13 @@ read-label-spec =
     slice-aggregate-sheet-named
     sheet-named-requires
     enum-told
-    enum-known-i
-    field-start-requires
     enum-known-s
+    enum-known-made
+    add-field-start
+    field-start-requires
+    enum-known-made-2
     first-requires
-    add-t25
+    add-t28
     returns-3
     returns-4
     returns-5)
