@@ -28,6 +28,7 @@ pub enum Named {
     Unknown,
 }
 
+// What numbers name, whatever they are and however many.
 pub fn sheet_named(numbers: &[u64]) -> Named
     ensures { λ r. ⌜ r ≡ named (now (numbers .entry)) ⌝ }
 {
