@@ -146,6 +146,7 @@ fn read_behind(
             if room.len() < count {
                 return refused(Refusal::Room(count), 0);
             }
+            // a call for each kind, so that a compiled loop knows it and does not ask at each number
             match kind {
                 Kind::Sheets => read_entries(Kind::Sheets, times, bytes, from, count, room),
                 Kind::Holdings => read_entries(Kind::Holdings, times, bytes, from, count, room),
