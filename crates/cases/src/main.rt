@@ -1,6 +1,8 @@
 // Puts the questions of standard input to the library, line by line, and writes a line for each: the question
 // and the answer. The input is `stdin`, and what must come out is `stdout`: compare/cases.rs writes the answers
 // from the definition alone, and says what a question looks like.
+#![tactic(auto)]
+
 mod ask;
 mod held;
 mod known;

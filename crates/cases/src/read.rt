@@ -6,7 +6,7 @@ use std::num::wrapping_sub_u64;
 pub(crate) const BYTES: usize = 512;
 
 // A number as it stands in a question: whether it has a minus, and its digits.
-#[derive(Drop)]
+#[derive(Clone, Copy)]
 struct Digits {
     minus: bool,
     size: u64,

@@ -66,7 +66,7 @@ pub(crate) fn named(to: u64, name: &[u8], n: u64) -> u64 {
 }
 
 // A signed number in unsigned ones: Minus(n) is -(n + 1).
-#[derive(Drop)]
+#[derive(Clone, Copy)]
 enum Split {
     Plus(u64),
     Minus(u64),

@@ -2,6 +2,8 @@
 //
 // Where a sheet stands in the cover follows from its row and its column. So there is a mark for each place of the cover: one pass over the
 // delivery sets them, up to the first bad place, and one over the cover finds the first that is not set.
+#![tactic(auto)]
+
 ghost use Rattle.std.specs.Prelude.{◌≡◌, [], ◌+◌, ◌≤◌, ◌<◌, length, get_or};
 ghost use Rattle.refusal.specs.Paper.{answer};
 ghost use Rattle.refusal.specs.Numbers.{judged_paper};
@@ -21,7 +23,7 @@ use refusal::{Judged, Refusal};
 mod place;
 
 // Whether a delivery is the cover, and of how many sheets.
-#[derive(Drop)]
+#[derive(Clone, Copy)]
 pub enum Delivered {
     Whole(u32),
     Refused(Refusal),

@@ -17,21 +17,21 @@ use crate::{Edges, Place};
 use refusal::{Laid, Refusal};
 
 // Rows or columns that follow one another.
-#[derive(Drop)]
+#[derive(Clone, Copy)]
 pub struct Span {
     pub first: u32,
     pub count: u32,
 }
 
 // Rows and columns.
-#[derive(Drop)]
+#[derive(Clone, Copy)]
 pub struct Block {
     pub down: Span,
     pub across: Span,
 }
 
 // The rows and columns that a window meets.
-#[derive(Drop)]
+#[derive(Clone, Copy)]
 pub enum Windowed {
     Meets(Block),
     Refused(Refusal),

@@ -10,6 +10,8 @@
 //
 // Points and edges are whole millimetres. A sheet, a window and the area own their west and north edge, not their east and
 // south edge: a point on the edge between two sheets lies in the eastern one and in the southern one.
+#![tactic(auto)]
+
 use refusal::Refusal;
 
 pub mod cover;
@@ -18,21 +20,21 @@ pub mod sheet;
 pub mod table;
 
 // A place on the grid of a scale, rows and columns counted from 0.
-#[derive(Drop)]
+#[derive(Clone, Copy)]
 pub struct Place {
     pub row: u32,
     pub column: u32,
 }
 
 // A place with its scale.
-#[derive(Drop)]
+#[derive(Clone, Copy)]
 pub struct Spot {
     pub scale: u32,
     pub place: Place,
 }
 
 // West, east, south and north in millimetres: the corners of a sheet, or a window.
-#[derive(Drop)]
+#[derive(Clone, Copy)]
 pub struct Edges {
     pub west: i64,
     pub east: i64,
@@ -40,19 +42,19 @@ pub struct Edges {
     pub north: i64,
 }
 
-#[derive(Drop)]
+#[derive(Clone, Copy)]
 pub enum Found {
     Sheet(u32),
     Refused(Refusal),
 }
 
-#[derive(Drop)]
+#[derive(Clone, Copy)]
 pub enum Located {
     At(Spot),
     Refused(Refusal),
 }
 
-#[derive(Drop)]
+#[derive(Clone, Copy)]
 pub enum Corners {
     Framed(Edges),
     Refused(Refusal),

@@ -7,7 +7,7 @@ use crate::sheet::{is_sheet, scale_of};
 
 // What the table has of a scale. Width and height are metres. Parts is the number of parts per parent, side how many of them lie each way
 // (4 and 2 for 2 x 2), and parent the scale that it is made from; all three are 0 where it is made from the area.
-#[derive(Drop)]
+#[derive(Clone, Copy)]
 struct Entry {
     width: u32,
     height: u32,
@@ -19,7 +19,7 @@ struct Entry {
 }
 
 // What belongs to a scale: its entry, and its first sheet number.
-#[derive(Drop)]
+#[derive(Clone, Copy)]
 pub struct Row {
     pub width: u32,
     pub height: u32,
@@ -174,7 +174,7 @@ impl Entry {
 }
 
 // A number given as a scale: 1 to 9 are the scales, and of any other number each answer is 0.
-#[derive(Drop)]
+#[derive(Clone, Copy)]
 pub struct Scale(pub u32);
 
 impl Scale {

@@ -2,5 +2,7 @@
 // refusal's place is theirs, is crates/label.
 //
 // And the piece before the first mark, by which fields are told apart here, and labels and lines in the crates above.
+#![tactic(auto)]
+
 pub mod piece;
 pub mod place;

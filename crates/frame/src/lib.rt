@@ -4,13 +4,15 @@
 // exactly. A point in floats lies in the sheet in which its exact value, a mantissa times a power of two, lies. It is rounded to whole
 // millimetres by the float's own bits, without float arithmetic: the east value down and the north value up, since a sheet owns its west and
 // north edge.
+#![tactic(auto)]
+
 use refusal::Refusal;
 
 pub mod metres;
 mod millimetres;
 
 // A sheet's edges and the middle between them, in metres, each field exactly that number.
-#[derive(Drop)]
+#[derive(Clone, Copy)]
 pub struct Frame {
     pub west: f64,
     pub east: f64,
@@ -20,7 +22,7 @@ pub struct Frame {
     pub middle_n: f64,
 }
 
-#[derive(Drop)]
+#[derive(Clone, Copy)]
 pub enum Framed {
     Metres(Frame),
     Refused(Refusal),

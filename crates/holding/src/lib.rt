@@ -3,6 +3,8 @@
 // At 1:5 000 HOK5 and DOF5 share a label, and so do KP2000 and DOF2 at 1:2 000. A holding says which of them lies on the shelf: product 0
 // leaves it unstated, 1 is the first product of the scale, and 2 the second, which only scales 6 and 7 have. Its number is three times the
 // sheet number plus the product: sheet 344 with its first product is 1 033.
+#![tactic(auto)]
+
 ghost use Rattle.std.specs.Prelude.{◌≡◌, ◌≤◌};
 ghost use Rattle.refusal.specs.Paper.{refused};
 ghost use Rattle.refusal.specs.Numbers.{on_paper, judged_paper};
@@ -15,25 +17,25 @@ use division::table::Scale;
 use refusal::{Judged, Refusal};
 
 // What a number is judged for: numbers that are given are to be written, and those of a list are being read.
-#[derive(Drop)]
+#[derive(Clone, Copy)]
 pub enum Task {
     Writing,
     Reading,
 }
 
-#[derive(Drop)]
+#[derive(Clone, Copy)]
 pub enum Held {
     Number(u32),
     Refused(Refusal),
 }
 
-#[derive(Drop)]
+#[derive(Clone, Copy)]
 pub struct Parts {
     pub sheet: u32,
     pub product: u32,
 }
 
-#[derive(Drop)]
+#[derive(Clone, Copy)]
 pub enum Parted {
     Into(Parts),
     Refused(Refusal),

@@ -9,3 +9,4 @@
 //   5; number; number; number; row; column  1:500
 // Rows count from 101 and columns from 1; a number is the sheet's in its parent, then the parent's in its own.
 // No two accepted labels stand for the same ground: a label is accepted exactly if it is the one that is written for its sheet.
+#![tactic(auto)]

@@ -1,5 +1,7 @@
 // Shelf lists to their sets (document 01, "Shelf list"; document 02, g): document 01's reader takes lists of sheets, and document 02's both
 // kinds.
+#![tactic(auto)]
+
 ghost use Rattle.std.specs.Prelude.{◌≡◌, ◌+◌, ◌*◌, ◌^◌, ◌≤◌, ◌<◌, length, drop};
 ghost use Rattle.shelf.specs.declared.Ended.TheVariants.{Refused};
 ghost use Rattle.shelf.specs.Kind.{kind_of};

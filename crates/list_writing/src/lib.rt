@@ -1,4 +1,6 @@
 // Sets to their shelf lists (document 01, "Shelf list"; document 02, g), of sheets and of holdings.
+#![tactic(auto)]
+
 ghost use Rattle.std.specs.Prelude.{◌≡◌, ◌+◌, ◌≤◌, length};
 ghost use Rattle.std.proofs.lemmas.List.Edits.{sets};
 ghost use Rattle.refusal.specs.Paper.{answer, counted, room_after};

@@ -2,6 +2,8 @@
 //
 // A municipality is a rising list of 1 to 400 sheets of 1:2 000. They are numbered from 1 to n by rows of the whole grid, from the top row,
 // each row from the west, whatever 1:50 000 sheets they lie in. A 1:1 000 sheet adds its number in that sheet, a 1:500 sheet one more.
+#![tactic(auto)]
+
 ghost use Rattle.std.specs.Prelude.{◌≡◌};
 ghost use Rattle.local.specs.Numbers.{from_three, as_three};
 
@@ -11,7 +13,7 @@ pub mod numbers;
 mod rows;
 
 // The local numbers of a 1:2 000, a 1:1 000 and a 1:500 sheet, that of the 1:2 000 sheet first.
-#[derive(Drop)]
+#[derive(Clone, Copy)]
 pub enum Local {
     One(u32),
     Two(u32, u32),
@@ -19,14 +21,14 @@ pub enum Local {
 }
 
 // The local numbers by which a sheet is known.
-#[derive(Drop)]
+#[derive(Clone, Copy)]
 pub enum Known {
     By(Local),
     Refused(Refusal),
 }
 
 // Local numbers as three, absent ones 0.
-#[derive(Drop)]
+#[derive(Clone, Copy)]
 pub struct Triple {
     pub n: u32,
     pub a: u32,

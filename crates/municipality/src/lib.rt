@@ -1,5 +1,7 @@
 // The list of a cadastral municipality (document 02, f): whether it is one, and whether a sheet is of it. How its sheets are numbered is
 // crates/local.
+#![tactic(auto)]
+
 ghost use Rattle.std.specs.Prelude.{◌≡◌};
 ghost use Rattle.refusal.specs.Numbers.{is_in, judged_paper};
 ghost use Rattle.rising.specs.Rising.{rising_from};

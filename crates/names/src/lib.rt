@@ -2,6 +2,8 @@
 // it is joined into the single letter.
 //
 // A single letter is handed on as one number, its first byte times 256 and its second.
+#![tactic(auto)]
+
 ghost use Rattle.std.specs.Prelude.{◌≤◌, ◌≡◌, length, drop};
 ghost use Rattle.names.specs.Name.{single, SameName};
 ghost use Rattle.names.specs.Given.{number, letter_in, pair_in, is_apart, Tells};

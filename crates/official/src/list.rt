@@ -3,7 +3,7 @@ ghost use Rattle.official.specs.Lookup.{name_of};
 ghost use Rattle.official.specs.Given.{AreOfficial, HasName};
 
 // A sheet, how many bytes its name has, and these bytes, with spaces behind them.
-#[derive(Drop)]
+#[derive(Clone, Copy)]
 pub(crate) struct Entry(pub u32, pub usize, pub [u8; 14]);
 
 const OFFICIAL: [Entry; 15] = [

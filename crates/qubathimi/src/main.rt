@@ -1,12 +1,14 @@
 // Reads catalogue lines of any length from standard input and prints a row for each. It reads, writes and says what failed; what is
 // printed is up to `turn`, by which `run::print::print` is proved to print what it should.
+#![tactic(auto)]
+
 ghost use Rattle.std.specs.Prelude.{◌≤◌, length};
 
 use libc::{STDERR_FILENO, STDIN_FILENO, STDOUT_FILENO};
 use run::turn::{State, begin, turn};
 
 // How many bytes were read, and whether that failed.
-#[derive(Drop)]
+#[derive(Clone, Copy)]
 struct Got {
     bytes: usize,
     failed: bool,

@@ -2,6 +2,8 @@
 //
 // Each calls the function of the library and hands its answer to one of `telling`, which makes it a status, the result, and the numbers
 // behind C's pointers.
+#![tactic(auto)]
+
 pub mod deliveries;
 pub mod holdings;
 pub mod kin;

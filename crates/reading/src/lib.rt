@@ -3,6 +3,8 @@
 //
 // A label by itself is `labels`, and one at the front of a line `at_front`: both by the numbers of its fields (`numbers`), and what these name
 // (crates/reckoning).
+#![tactic(auto)]
+
 use division::Edges;
 use refusal::Refusal;
 
@@ -11,14 +13,14 @@ pub mod labels;
 mod numbers;
 
 // The sheet that the label at a line's front names, its corners, and where the label ends.
-#[derive(Drop)]
+#[derive(Clone, Copy)]
 pub struct Front {
     pub sheet: u32,
     pub corners: Edges,
     pub end: usize,
 }
 
-#[derive(Drop)]
+#[derive(Clone, Copy)]
 pub enum Fronted {
     Label(Front),
     Refused(Refusal),

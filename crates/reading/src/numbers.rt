@@ -4,14 +4,14 @@ ghost use Rattle.division.specs.Words.{◌=?◌};
 ghost use Rattle.reading.specs.Given.{is_digit, digits_from, field_from, IsScanned};
 
 // Digits that follow one another: the number that they end, and the place behind them.
-#[derive(Drop)]
+#[derive(Clone, Copy)]
 pub struct Run {
     pub value: u64,
     pub end: usize,
 }
 
 // How many numbers there are, and the place behind the last.
-#[derive(Drop)]
+#[derive(Clone, Copy)]
 pub struct Scanned {
     pub count: usize,
     pub end: usize,

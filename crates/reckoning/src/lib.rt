@@ -1,5 +1,7 @@
 // What the numbers of a label's fields name (document 01, "Labels"): a scale, by the first of them and their count, and by the others a sheet of
 // it: its index, and how far it lies from the area's corner. That they stand in a label, and where, is crates/reading.
+#![tactic(auto)]
+
 ghost use Rattle.std.specs.Prelude.{◌≡◌};
 ghost use Rattle.reckoning.specs.Reckoning.{named};
 
@@ -10,7 +12,7 @@ mod ground;
 mod scale;
 
 // An index of a scale, and how far its sheet lies to the right of the area's corner and below it, in hundreds of metres.
-#[derive(Drop)]
+#[derive(Clone, Copy)]
 pub struct Reach {
     pub index: u32,
     pub right: u32,
@@ -18,14 +20,14 @@ pub struct Reach {
 }
 
 // What the numbers behind the first make at a scale, or the first of them that is out of range, counted from 0.
-#[derive(Drop)]
+#[derive(Clone, Copy)]
 pub enum Reckoned {
     At(Reach),
     Out(usize),
 }
 
 // The scale that numbers name, and what they make there; or their first number and their count are none of those known.
-#[derive(Drop)]
+#[derive(Clone, Copy)]
 pub enum Named {
     Scale(u32, Reckoned),
     Unknown,

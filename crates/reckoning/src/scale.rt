@@ -3,7 +3,7 @@ ghost use Rattle.std.specs.Prelude.{◌≡◌};
 ghost use Rattle.reckoning.specs.Given.{marked};
 
 // The scale that a label names, if it names one.
-#[derive(Drop)]
+#[derive(Clone, Copy)]
 pub enum Marked {
     Scale(u32),
     Unknown,

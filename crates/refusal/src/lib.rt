@@ -1,11 +1,13 @@
 // The refusals: document 01, "Numbers of refusal", and those that document 02 adds. Every question of the box gets its answer or one of
 // these. And `lay`, for bytes that are there already and go into lent room.
+#![tactic(auto)]
+
 ghost use Rattle.std.specs.Prelude.{◌≡◌, length};
 ghost use Rattle.refusal.specs.Paper.{laid, counted, room_after};
 ghost use Rattle.refusal.specs.Numbers.{IsNumbered, laid_paper};
 
 // Why there is no answer, in the order of the papers' numbers, from 1.
-#[derive(Drop)]
+#[derive(Clone, Copy)]
 pub enum Refusal {
     PointOutside,
     NoScale,
@@ -42,21 +44,21 @@ pub enum Refusal {
 }
 
 // What was laid into lent room: so many sheets or bytes, from its first place on; or a refusal, and the room is as it was.
-#[derive(Drop)]
+#[derive(Clone, Copy)]
 pub enum Laid {
     Items(usize),
     Refused(Refusal),
 }
 
 // Whether something is as it should be, where there is nothing to hand back.
-#[derive(Drop)]
+#[derive(Clone, Copy)]
 pub enum Judged {
     Fine,
     Refused(Refusal),
 }
 
 // A refusal as the paper tells it: its number, the value that it carries, 0 where it carries none, and whether it carries one.
-#[derive(Drop)]
+#[derive(Clone, Copy)]
 pub struct Numbered(pub u32, pub usize, pub bool);
 
 impl Refusal {

@@ -10,7 +10,7 @@ use refusal::Laid;
 use rows::row::row;
 
 // What was made of a block: the bytes of it that were used, the bytes written, and the lines that have their rows.
-#[derive(Drop)]
+#[derive(Clone, Copy)]
 pub struct Fed {
     pub used: usize,
     pub written: usize,

@@ -10,7 +10,7 @@ use crate::turn::{State, begin, least, turn};
 use refusal::lay;
 
 // How much of an output a sink took, and whether that was all of it.
-#[derive(Drop)]
+#[derive(Clone, Copy)]
 pub struct Took {
     pub written: usize,
     pub whole: bool,

@@ -12,7 +12,7 @@ use refusal::lay;
 
 // What a run goes by between two turns: the bytes of the buffer that have no row yet, from `from` up to `end`; the number of their first
 // line; how many bytes of the room are to be written; whether input is wanted, which is to be read behind `end`; and whether the run is over.
-#[derive(Drop)]
+#[derive(Clone, Copy)]
 pub struct State {
     pub from: usize,
     pub end: usize,

@@ -9,13 +9,13 @@ use holding::{Task, judge, past};
 use refusal::{Judged, Refusal};
 
 // Document 01's lists have sheets, and document 02's have holdings.
-#[derive(Drop)]
+#[derive(Clone, Copy)]
 pub enum Kind {
     Sheets,
     Holdings,
 }
 
-#[derive(Drop)]
+#[derive(Clone, Copy)]
 pub enum Count {
     Numbers(usize),
     Refused(Refusal),
