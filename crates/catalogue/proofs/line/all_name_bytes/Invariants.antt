@@ -1,0 +1,16 @@
+-- The bytes passed are bytes of a name, so those that are left decide. Assumes nothing.
+use mathlib.Core.Path.{◌≡◌, refl, sym, ◌∙◌}
+use Prim.Native.Nat.{◌-◌, ◌≤◌}
+use native.Mathlib.Omega.{arith}
+use borrow.Author.Tests.{le-leb, lt-leb, eq-eqb, ne_eqb}
+use lib.ListN.{length, get_or, drop}
+use Rattle.label.specs.Text.{every}
+use Rattle.catalogue.specs.Line.{is_name_byte}
+use Rattle.catalogue.proofs.LineLaws.{every-fails, every-on, every-end}
+use Rattle.catalogue.proofs.line.all_name_bytes.Given as goal
+
+abbrev pub invariant-loop-i : goal.invariant-loop-i
+invariant-loop-i l = (l.i ≤ length l.name) × (every is_name_byte l.name ≡ every is_name_byte (drop l.i l.name))
+
+abbrev pub decreases-loop-i : goal.decreases-loop-i
+decreases-loop-i l = length l.name - l.i

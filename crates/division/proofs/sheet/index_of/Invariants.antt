@@ -1,0 +1,11 @@
+-- Each turn takes the number in the parent and goes on at the parent's place, up to a scale that is made from the area. The measure is the parent. Assumes nothing.
+use native.Mathlib.Omega.{arith}
+use borrow.Author.Rules.{rules}
+use Rattle.division.proofs.FamilyLaws.{Climb, climb-first, climb-area, climb-small, climb-done, climb-parted, climb-up, climb-sum, climb-each, climb-next}
+use Rattle.division.proofs.sheet.index_of.Given as goal
+
+abbrev pub invariant-loop-t : goal.invariant-loop-t
+invariant-loop-t l = Climb l.s l.initial.at l.t l.at l.index l.each
+
+abbrev pub decreases-loop-t : goal.decreases-loop-t
+decreases-loop-t l = l.t.parent

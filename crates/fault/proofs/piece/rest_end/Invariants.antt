@@ -1,0 +1,13 @@
+-- The piece goes on from the place that the loop has come to, and it ends there at a mark or at the end. The measure is what is left. Assumes nothing.
+use mathlib.Core.Path.{◌≡◌}
+use Prim.Native.Nat.{◌+◌, ◌-◌}
+use native.Mathlib.Omega.{arith}
+use lib.ListN.{length, drop}
+use Rattle.label.proofs.PieceLaws.{piece, at_mark, past-byte, at-end}
+use Rattle.fault.proofs.piece.rest_end.Given as goal
+
+abbrev pub invariant-loop-i : goal.invariant-loop-i
+invariant-loop-i l = l.from + length (piece l.mark (drop l.from l.bytes)) ≡ l.i + length (piece l.mark (drop l.i l.bytes))
+
+abbrev pub decreases-loop-i : goal.decreases-loop-i
+decreases-loop-i l = length l.bytes - l.i

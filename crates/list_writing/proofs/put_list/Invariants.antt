@@ -1,0 +1,15 @@
+-- Each turn writes one gap, and leaves the rest of the list to be written behind it. Assumes nothing.
+use borrow.Author.Rules.{rules}
+use native.Mathlib.Omega.{arith}
+use Prim.Native.Nat.{◌-◌}
+use lib.ListN.{length}
+use Rattle.shelf.specs.Kind.{kind_of}
+use Rattle.shelf.proofs.KindLaws.{works}
+use Rattle.shelf.proofs.WritingLaws.{set-in, length-list, Putting, putting-first, putting-next, putting-done, gap-fits, here, here-small}
+use Rattle.list_writing.proofs.put_list.Given as goal
+
+abbrev pub invariant-loop-i : goal.invariant-loop-i
+invariant-loop-i l = Putting l.numbers l.initial.room l.initial.at l.room l.at l.next l.i
+
+abbrev pub decreases-loop-i : goal.decreases-loop-i
+decreases-loop-i l = length l.numbers - l.i

@@ -1,0 +1,18 @@
+-- The places before i have the orders of the sheets before i. Assumes nothing.
+use mathlib.Core.Path.{◌≡◌, refl, ◌∙◌}
+use mathlib.Core.List.{map}
+use Prim.Native.Nat.{◌-◌, ◌≤◌}
+use native.Mathlib.Omega.{arith}
+use borrow.Author.Rules.{rules}
+use lib.ListN.{length, take, length-set}
+use Rattle.division.specs.Sheet.{reading_order}
+use Rattle.division.proofs.MemberLaws.{mem-at}
+use Rattle.local.proofs.MunicipalityLaws.{few, member-scale}
+use Rattle.local.proofs.RowLaws.{put_order, all-orders}
+use Rattle.local.proofs.rows.orders.Given as goal
+
+abbrev pub invariant-loop-i : goal.invariant-loop-i
+invariant-loop-i l = (l.i ≤ length l.sheets) × (length l.all ≡ 400) × (take l.i l.all ≡ take l.i (map reading_order l.sheets))
+
+abbrev pub decreases-loop-i : goal.decreases-loop-i
+decreases-loop-i l = length l.sheets - l.i

@@ -1,0 +1,20 @@
+-- The entries passed have other names, so the sheet is among those that are left. The measure is what is left. Assumes nothing.
+use mathlib.Core.Path.{◌≡◌, refl, sym, ◌∙◌}
+use mathlib.Core.List.{[]}
+use mathlib.Core.Option.{bind}
+use Prim.Native.Nat.{◌-◌, ◌≤◌}
+use native.Mathlib.Omega.{arith}
+use borrow.Author.Rules.{rules}
+use lib.ListN.{get_or}
+use lib.Seq.{length-take-le}
+use Rattle.official.specs.Lookup.{sheet_called}
+use Rattle.official.specs.Theorems.{row_at}
+use Rattle.official.proofs.LookupTheorems.{of_name}
+use Rattle.official.proofs.ListLaws.{IsRow, is_row, left_from, none_left, sheet_found, sheet-here, other_name}
+use Rattle.official.proofs.lookup.official_sheet.Given as goal
+
+abbrev pub invariant-loop-i : goal.invariant-loop-i
+invariant-loop-i l = (l.i ≤ 15) × (sheet_called l.name ≡ left_from (of_name l.name) sheet_found l.i)
+
+abbrev pub decreases-loop-i : goal.decreases-loop-i
+decreases-loop-i l = 15 - l.i
