@@ -2,7 +2,7 @@
 -- done in the first turn. The measure is what is left of the block. Assumes nothing.
 use Prim.Native.Nat.{◌-◌}
 use lib.ListN.{length}
-use Rattle.run.proofs.FeedLaws.{Going}
+use Rattle.run.proofs.FeedLaws.{Going, Begins}
 use Rattle.run.proofs.feed.make_rows.Given as goal
 
 abbrev pub invariant-loop-i : goal.invariant-loop-i
