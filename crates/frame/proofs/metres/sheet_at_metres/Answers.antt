@@ -3,10 +3,8 @@ use mathlib.Core.Path.{◌≡◌, sym, ◌∙◌}
 use mathlib.Core.Bool.{true}
 use Rattle.refusal.specs.Paper.{is_answer}
 use Rattle.division.specs.Table.{is_scale}
-use Rattle.division.specs.Answers.{sheet_paper}
 use Rattle.division.proofs.TestLaws.{both, returned}
 use Rattle.frame.specs.Exact.{exactly}
-use Rattle.frame.specs.Metres.{sheet_at_metres}
 use Rattle.frame.proofs.PointTheorems.{no-scale, no_number}
 use Rattle.frame.proofs.PointLaws.{pair, out-of-reach-refused, rounded-asked}
 use Rattle.frame.proofs.metres.sheet_at_metres.Goals as goal
@@ -30,16 +28,12 @@ returns-then-not-in_reach c =
 
 pub returns-in-Sheet : goal.returns-in-Sheet
 returns-in-Sheet c =
-    let is-scale : is_scale c.args.scale ≡ true = (sym c.is_scale.ensures ∙ c.if-not-is_scale.false) in
-    let asked : let a = c.args in sheet_paper c.sheet_at.result ≡ sheet_at_metres a.scale a.e a.n = let a = c.args in
-    c.sheet_at.ensures
-    ∙ rounded-asked a.scale a.e a.n is-scale (returned c.down.result c.down.type_inv) (returned c.up.result c.up.type_inv) c.down.ensures c.up.ensures in
-    rw c.in-Sheet.is at asked
+    let a = c.args in
+    let asked = rounded-asked a.scale a.e a.n (sym c.is_scale.ensures ∙ c.if-not-is_scale.false) in
+    rw c.in-Sheet.is at (c.sheet_at.ensures ∙ asked (returned c.down.result c.down.type_inv) (returned c.up.result c.up.type_inv) c.down.ensures c.up.ensures)
 
 pub returns-in-Refused : goal.returns-in-Refused
 returns-in-Refused c =
-    let is-scale : is_scale c.args.scale ≡ true = (sym c.is_scale.ensures ∙ c.if-not-is_scale.false) in
-    let asked : let a = c.args in sheet_paper c.sheet_at.result ≡ sheet_at_metres a.scale a.e a.n = let a = c.args in
-    c.sheet_at.ensures
-    ∙ rounded-asked a.scale a.e a.n is-scale (returned c.down.result c.down.type_inv) (returned c.up.result c.up.type_inv) c.down.ensures c.up.ensures in
-    rw c.in-Refused.is at asked
+    let a = c.args in
+    let asked = rounded-asked a.scale a.e a.n (sym c.is_scale.ensures ∙ c.if-not-is_scale.false) in
+    rw c.in-Refused.is at (c.sheet_at.ensures ∙ asked (returned c.down.result c.down.type_inv) (returned c.up.result c.up.type_inv) c.down.ensures c.up.ensures)
