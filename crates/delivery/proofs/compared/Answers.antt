@@ -8,7 +8,7 @@ use Rattle.delivery.proofs.compared.Goals as goal
 
 pub complete-requires : goal.complete-requires
 complete-requires c =
-    record { in_grid = c.requires.in_grid; cover_in_bounds = room_for (c.mark.ensures.marked_2 (ap judged_paper c.in-Fine.is)) (length-is c.requires.in_grid) }
+    record { in_grid = c.requires.in_grid; cover_in_bounds = room_for (c.mark.ensures.marked_after (ap judged_paper c.in-Fine.is)) (length-is c.requires.in_grid) }
 
 pub returns-in-Refused : goal.returns-in-Refused
 returns-in-Refused c =
@@ -18,4 +18,4 @@ returns-in-Refused c =
 pub returns-in-Fine : goal.returns-in-Fine
 returns-in-Fine c =
     let fine = ap judged_paper c.in-Fine.is in
-    c.complete.ensures ∙ no-bad-place (sheets_of c.args.scale c.args.cover) c.args.sheets.now _ (sym fine ∙ c.mark.ensures.result_value) (c.mark.ensures.marked_2 fine) (length-is c.requires.in_grid)
+    c.complete.ensures ∙ no-bad-place (sheets_of c.args.scale c.args.cover) c.args.sheets.now _ (sym fine ∙ c.mark.ensures.result_value) (c.mark.ensures.marked_after fine) (length-is c.requires.in_grid)

@@ -15,7 +15,7 @@ use Rattle.delivery.proofs.mark.Goals as goal
 pub returns-then-at-count : goal.returns-then-at-count
 returns-then-at-count c =
     let count-is : (let a = c.args in length (sheets_of a.scale a.cover) ≡ c.count_of-count.result) = length-is c.requires.in_grid ∙ sym c.count_of-count.ensures in
-    record { result_value = strange-here c.loop-i.invariant.1 c.loop-i-test.true c.stands-at.ensures (c.if-at-count.true ∙ sym count-is); marked_2 = λ e. absurd (differs (sym e)) }
+    record { result_value = strange-here c.loop-i.invariant.1 c.loop-i-test.true c.stands-at.ensures (c.if-at-count.true ∙ sym count-is); marked_after = λ e. absurd (differs (sym e)) }
 
 pub bounds-marks-at : goal.bounds-marks-at
 bounds-marks-at c =
@@ -27,7 +27,7 @@ pub returns-then-seen : goal.returns-then-seen
 returns-then-seen c =
     let count-is : (let a = c.args in length (sheets_of a.scale a.cover) ≡ c.count_of-count.result) = length-is c.requires.in_grid ∙ sym c.count_of-count.ensures in
     let stands-in : (let a = c.args in c.stands-at.result < length (sheets_of a.scale a.cover)) = ⊎_elim (λ e. absurd (c.if-at-count.false (e ∙ count-is))) (λ h. h) (eq-or-lt_of_le c.stands-at.ensures.few) in
-    record { result_value = seen_here c.loop-i.invariant.1 c.loop-i-test.true c.stands-at.ensures stands-in c.if-seen.true; marked_2 = λ c. absurd (differs (sym c)) }
+    record { result_value = seen_here c.loop-i.invariant.1 c.loop-i-test.true c.stands-at.ensures stands-in c.if-seen.true; marked_after = λ e. absurd (differs (sym e)) }
 
 pub bounds-marks-at-in-loop-i : goal.bounds-marks-at-in-loop-i
 bounds-marks-at-in-loop-i c =
@@ -44,4 +44,4 @@ loop-i-preserved c =
 
 pub returns : goal.returns
 returns c =
-    let d = marking-done c.loop-i.invariant.1 c.loop-i-test.false in record { result_value = d.0; marked_2 = λ e. d.1 }
+    let d = marking-done c.loop-i.invariant.1 c.loop-i-test.false in record { result_value = d.0; marked_after = λ e. d.1 }
