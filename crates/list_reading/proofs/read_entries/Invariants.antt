@@ -1,6 +1,5 @@
 -- Each turn reads one gap and places one number, and leaves the rest of the reading as it was. Assumes nothing.
 use Prim.Native.Nat.{◌-◌}
-use Rattle.shelf.specs.declared.number.Next.TheVariants as next
 use Rattle.shelf.specs.Kind.{kind_of}
 use Rattle.shelf.proofs.ReadingLaws.{Entering}
 use Rattle.list_reading.proofs.read_entries.Given as goal
