@@ -39,6 +39,7 @@ module _ (k : ℕ) where
       by false = omega arith
 
   pub mem-occurs : {l : List ℕ} → Memᴰ k l → 1 ≤ occurs k l
+  mem-occurs {l = []} m = elim m [ ]
   mem-occurs {l = x ∷ l} (Memᴰ.head e) = omega (arith, occurs-here x l e)
   mem-occurs {l = x ∷ l} (Memᴰ.tail m) = omega (arith, mem-occurs m, occurs-more x l)
 

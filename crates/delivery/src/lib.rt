@@ -104,7 +104,7 @@ fn mark(scale: u32, cover: Block, sheets: &[u32], marks: &mut [bool]) -> Judged
     requires in_grid { InGrid scale cover }
     requires marked { Marked (sheets_of scale cover) [] marks.old }
     ensures result_value { judged_paper result ≡ in_turn (good_place (sheets_of scale cover) sheets.now) (from 0 (length sheets.now)) }
-    ensures marked_2 { judged_paper result ≡ answer tt → Marked (sheets_of scale cover) sheets.now marks.new }
+    ensures marked_after { judged_paper result ≡ answer tt → Marked (sheets_of scale cover) sheets.now marks.new }
 {
     let count = count_of(cover) as usize;
     let first = Scale(scale).first();

@@ -23,6 +23,7 @@ in_mem k (x ∷ l) e = by (k =? x) refl e (in_mem k l)
     by false f e below = Memᴰ.tail (below e)
 
 pub mem-in : (k : ℕ) {l : List ℕ} → Memᴰ k l → is_in l k ≡ true
+mem-in k {l = []} m = elim m [ ]
 mem-in k {l = x ∷ l} (Memᴰ.head g) = rw (eq-eqb k x g)
 mem-in k {l = x ∷ l} (Memᴰ.tail m) = by (k =? x) (mem-in k m)
   where
@@ -36,7 +37,8 @@ mem-at (x ∷ l) zero h = Memᴰ.head refl
 mem-at (x ∷ l) (suc i) h = Memᴰ.tail (mem-at l i (le_of_suc-le-suc h))
 
 -- and each member stands at a place
-pub mem-place : {l : List ℕ} {k : ℕ} → Memᴰ k l → (i : ℕ) × (i < length l) × (get_or l i 0 ≡ k)
+pub mem-place : {k : ℕ} {l : List ℕ} → Memᴰ k l → (i : ℕ) × (i < length l) × (get_or l i 0 ≡ k)
+mem-place {l = []} m = elim m [ ]
 mem-place {l = x ∷ l} (Memᴰ.head e) = (0, omega arith, sym e)
 mem-place {l = x ∷ l} (Memᴰ.tail m) = let p = mem-place m in (suc p.0, omega (arith, p.1), p.2)
 
@@ -62,10 +64,11 @@ module _ (f : ℕ → Bool) where
       by true e below m = ⊎_elim (λ g. (Memᴰ.head g, ap f g ∙ e)) (λ k. (Memᴰ.tail (below k).0, (below k).1)) (Memᴰ.cases_cons m)
       by false e below m = (Memᴰ.tail (below m).0, (below m).1)
 
-  pub has-keep : {l : List ℕ} {x : ℕ} → f x ≡ true → Memᴰ x l → Memᴰ x (keep f l)
+  pub has-keep : {x : ℕ} → f x ≡ true → {l : List ℕ} → Memᴰ x l → Memᴰ x (keep f l)
   unfolding keep
-  has-keep {l = y ∷ l} {x} e (Memᴰ.head g) = let h : f y ≡ true = ap f (sym g) ∙ e in rw h (Memᴰ.head g)
-  has-keep {l = y ∷ l} {x} e (Memᴰ.tail m) = by (f y) (has-keep e m)
+  has-keep e {l = []} m = elim m [ ]
+  has-keep {x} e {l = y ∷ l} (Memᴰ.head g) = let h : f y ≡ true = ap f (sym g) ∙ e in rw h (Memᴰ.head g)
+  has-keep {x} e {l = y ∷ l} (Memᴰ.tail m) = by (f y) (has-keep e m)
     where
       by : (b : Bool) → Memᴰ x (keep f l) → Memᴰ x (cond b (y ∷ keep f l) (keep f l))
       by true m = Memᴰ.tail m
@@ -88,7 +91,8 @@ block-has s (r ∷ rs) cs m =
     (λ b. let t = block-has s rs cs b in record { row = t.row; column = t.column; in_rows = Memᴰ.tail t.in_rows; in-columns = t.in-columns; is = t.is })
     (Memᴰ.append_cases (map (sheet_in s r) cs) m)
 
-pub has_block : (s : ℕ) (cs : List ℕ) {rs : List ℕ} {r c : ℕ} → Memᴰ r rs → Memᴰ c cs → Memᴰ (sheet_in s r c) (block s rs cs)
+pub has_block : (s : ℕ) (cs : List ℕ) {r c : ℕ} {rs : List ℕ} → Memᴰ r rs → Memᴰ c cs → Memᴰ (sheet_in s r c) (block s rs cs)
 unfolding block flat_map
-has_block s cs {rs = x ∷ rs} {r} {c} (Memᴰ.head e) m = Memᴰ.append_left (block s rs cs) (Memᴰ.cast (ap (λ (r : ℕ). sheet_in s r c) e) (Memᴰ.map (sheet_in s x) m))
+has_block s cs {rs = []} h m = elim h [ ]
+has_block s cs {r} {c} {rs = x ∷ rs} (Memᴰ.head e) m = Memᴰ.append_left (block s rs cs) (Memᴰ.cast (ap (λ (r : ℕ). sheet_in s r c) e) (Memᴰ.map (sheet_in s x) m))
 has_block s cs {rs = x ∷ rs} (Memᴰ.tail h) m = Memᴰ.append_right (map (sheet_in s x) cs) (has_block s cs h m)

@@ -35,7 +35,7 @@ back f = to_z-of_z f
 
 -- and of a signed number that a call gave, and of an unsigned number that is cast
 pub returned : (x : ℤ) → mag x < 2 ^ 63 → to_z w64 (of_z w64 x) ≡ x
-returned x h = to_z-of_z (record { sfits = h })
+returned x h = let f : SFits w64 x = record { sfits = h } in to_z-of_z f
 
 pub unsigned : (n : ℕ) → n < 2 ^ 63 → to_z w64 n ≡ pos n
 unsigned n h = to_z_pos w64 n h

@@ -5,7 +5,7 @@ use Prim.Native.Nat.{ℕ, ◌+◌, ◌*◌, ◌/◌, ◌%◌, ◌^◌, ◌≤◌
 use native.Mathlib.Nat.{mul-pos, mul-one, mul_comm, mul_assoc, mul_right_comm, add-mul}
 use native.Mathlib.Omega.{arith}
 use lib.IntN.{pos}
-use lib.Ieee.{Float, fin, binary64, up, down, sum, add, div, of_int, of_bits}
+use lib.Ieee.{Float, nan, inf, fin, binary64, up, down, sum, add, div, of_int, of_bits}
 use lib.Ieee.Fits.{down_pos}
 use lib.Ieee.Exact.{HasValue}
 use lib.Ieee.Back.{round_whole}
@@ -22,6 +22,10 @@ whole-exact n h = round_whole binary64 false n h
 -- the sum of two floats that are whole numbers is the float of the sum
 sum-exact : (x y : Float) (a b : ℕ) → HasValue x false a 1 → HasValue y false b 1 → add binary64 x y ≡ float (a + b)
 unfolding of_int add sum
+sum-exact nan y a b v w = elim v [ ]
+sum-exact (inf _) y a b v w = elim v [ ]
+sum-exact (fin false m e) nan a b v w = elim w [ ]
+sum-exact (fin false m e) (inf _) a b v w = elim w [ ]
 sum-exact (fin true m e) y a b v w = absurd (true≢false v.0)
 sum-exact (fin false m e) (fin true n d) a b v w = absurd (true≢false w.0)
 sum-exact (fin false m e) (fin false n d) a b v w =
@@ -37,6 +41,8 @@ sum-exact (fin false m e) (fin false n d) a b v w =
 -- and half of a float that is an even whole number is the float of the half
 half-exact : (x : Float) (a : ℕ) → HasValue x false (2 * a) 1 → div binary64 x (fin false 1 (pos 1)) ≡ float a
 unfolding of_int div
+half-exact nan a v = elim v [ ]
+half-exact (inf _) a v = elim v [ ]
 half-exact (fin true m e) a v = absurd (true≢false v.0)
 half-exact (fin false m e) a v =
     round_same binary64 false (m * up e * 1) (1 * 2 * down e) a 1 (mul-pos (omega arith) (down_pos e)) (omega arith) (go (m * up e) (down e) v.1)

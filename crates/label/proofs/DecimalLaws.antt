@@ -28,6 +28,7 @@ longer ds d = omega (arith, length-append ds (d ∷ []))
 -- behind a number that is not zero, a digit stays
 pub behind : (ds : List ℕ) (d : ℕ) → Some ds → without_zeros (ds ++ (d ∷ [])) ≡ without_zeros ds ++ (d ∷ [])
 unfolding without_zeros
+behind [] d s = elim s [ ]
 behind (x ∷ ds) d (here n) = rw (ne_eqb x 48 n)
 behind (x ∷ ds) d (there s) = by (eqb x 48) (behind ds d s)
   where

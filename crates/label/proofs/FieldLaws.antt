@@ -10,9 +10,9 @@ use lib.ListN.{length, get_or, drop}
 use Rattle.division.specs.declared.Place.{Place}
 use Rattle.division.specs.Words.{between}
 use Rattle.division.specs.Table.{Made, of_area, of_scale, rows_of, columns_of}
-use Rattle.division.specs.Sheet.{number_in, parent_place, part_index, index_at, place_at}
-use Rattle.division.proofs.TestLaws.{both, in_between, between_in}
-use Rattle.division.proofs.MadeLaws.{Sound, On, place, quot, number-few, child-parent, parent-child, number-child, on-parent, left_one, left-few}
+use Rattle.division.specs.Sheet.{parent_place, part_index, index_at, place_at}
+use Rattle.division.proofs.TestLaws.{both, between_in}
+use Rattle.division.proofs.MadeLaws.{Sound, On, place, quot, child-parent, parent-child, number-child, left_one, left-few}
 use Rattle.label.specs.Text.{every}
 use Rattle.label.specs.Label.{fields_of, ranges, in_range, place_from, count_of}
 
@@ -27,13 +27,6 @@ pub place-fields : (m : Made) (p : Place) → Sound m → place_from m (fields_o
 unfolding place_from fields_of
 place-fields (of_area r c) p s = place (omega arith) (omega arith)
 place-fields (of_scale z m k) p s = rw (place-fields m (parent_place k p) s.1) (child-parent k s.0 p)
-
-pub range-fields : (m : Made) (p : Place) → Sound m → On m p → in_range m (fields_of m p) ≡ true
-unfolding in_range ranges every fields_of rows_of columns_of
-range-fields (of_area r c) p s o =
-    rw (in_between 101 (100 + r) (101 + p.row) (omega arith) (omega (arith, o.in_rows)), in_between 1 c (1 + p.column) (omega arith) (omega (arith, o.in-columns)))
-range-fields (of_scale z m k) p s o =
-    rw (in_between 1 (k * k) (number_in k p) (omega arith) (number-few k s.0 p)) (range-fields m (parent_place k p) s.1 (on-parent z m k p s.0 o))
 
 -- ---- from fields to their place
 

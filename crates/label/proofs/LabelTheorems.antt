@@ -26,7 +26,8 @@ use Rattle.label.specs.Text.{every, split, join, value, digits, without_zeros, d
 use Rattle.label.specs.Label.{mark_of, fields_of, count_of, in_range, first_out, place_from, scale_with, scale_named, is_label_byte, is_field, well_formed, start_of, formed, numbers_in, sheet_named, read_label, label_of}
 use Rattle.label.proofs.ValueLaws.{value-decimal}
 use Rattle.label.proofs.SplitLaws.{FreeAll, split-join, join-split}
-use Rattle.label.proofs.FieldLaws.{count-fields, place-fields, range-fields, on-from, fields-place}
+use Rattle.label.proofs.FieldLaws.{count-fields, place-fields, on-from, fields-place}
+use Rattle.label.proofs.RangeLaws.{range-fields}
 use Rattle.label.proofs.LengthLaws.{Short, sizes}
 use Rattle.label.proofs.ByteLaws.{decimal-digits}
 use Rattle.label.proofs.SpellLaws.{digits-free, pieces, pieces-spelt}

@@ -2,6 +2,7 @@ pub mod DecimalLaws
 pub mod ValueLaws
 pub mod SplitLaws
 pub mod FieldLaws
+pub mod RangeLaws
 pub mod SpellLaws
 pub mod LabelTheorems
 pub mod SizeLaws

@@ -1,6 +1,6 @@
 -- Lists of numbers: whether a number is in one, where it stands, and how many pass a test; two lists of the same numbers have as many. Assumes nothing.
 use mathlib.Core.Path.{◌≡◌, refl, sym, ap, ◌∙◌}
-use mathlib.Core.Bool.{Bool, true, false, cond, ◌||◌, or_assoc, or-false}
+use mathlib.Core.Bool.{Bool, true, false, cond, ◌||◌}
 use mathlib.Core.List.{List, [], ◌∷◌, map, Memᴰ}
 use Prim.Native.Nat.{ℕ, zero, suc, ◌+◌, ◌≤◌, ◌<◌}
 use native.Mathlib.Nat.{zero-add, le_of_suc-le-suc}
@@ -35,6 +35,7 @@ Distinct (x ∷ l) = NoneOf x l × Distinct l
 
 pub place-in : (k : ℕ) {l : List ℕ} → Memᴰ k l → (place_in k l < length l) × (get_or l (place_in k l) 0 ≡ k)
 unfolding place_in
+place-in k {l = []} m = elim m [ ]
 place-in k {l = x ∷ l} (Memᴰ.head g) = rw (eq-eqb k x g) (omega arith, sym g)
 place-in k {l = x ∷ l} (Memᴰ.tail m) = by (k =? x) refl (place-in k m)
   where
@@ -121,6 +122,7 @@ module _ (p : ℕ → Bool) where
   -- one number more is picked once
   pick-one : (x : ℕ) (f : ℕ → Bool) → f x ≡ false → {l : List ℕ} → Distinct l → Memᴰ x l → count p (keep (λ y. y =? x || f y) l) ≡ bool_byte (p x) + count p (keep f l)
   unfolding keep
+  pick-one x f e {l = []} d m = elim m [ ]
   pick-one x f e {l = z ∷ l} d (Memᴰ.head g) =
       let t : keep (λ y. y =? x || f y) l ≡ keep f l = keep_same (λ y. y =? x || f y) f l (λ y m. ap (λ (b : Bool). b || f y) (ne_eqb y x (λ q. d.0 y m (sym (q ∙ g))))) in
       let k : f z ≡ false = ap f (sym g) ∙ e in

@@ -61,6 +61,7 @@ module _ (key : ℕ → ℕ) where
 
   pub rank : (k : ℕ) {l : List ℕ} → RisesBy l → Memᴰ k l → place_in k l ≡ smaller (key k) l
   unfolding place_in keep
+  rank k {l = []} r m = elim m [ ]
   rank k {l = x ∷ l} r (Memᴰ.head g) =
       let h : (key x <? key k) ≡ false = le-ltb (key x) (key k) (omega (arith, ap key g)) in
       rw (eq-eqb k x g, h) (sym (none-smaller x (key k) l r.0 (omega (arith, ap key g))))

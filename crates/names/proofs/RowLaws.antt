@@ -15,8 +15,9 @@ use Rattle.names.specs.Name.{Row, table, single_in, single}
 -- ---- a row of the table
 
 -- what every one of a list passes, each does
-pub each-passes : {A : Type 0} (test : A → Bool) {xs : List A} {x : A} → every test xs ≡ true → Memᴰ x xs → test x ≡ true
+pub each-passes : {A : Type 0} (test : A → Bool) {x : A} {xs : List A} → every test xs ≡ true → Memᴰ x xs → test x ≡ true
 unfolding every
+each-passes test {xs = []} e listed = elim listed [ ]
 each-passes test {xs = y ∷ xs} e (Memᴰ.head is) = ap test is ∙ (both (test y) (every test xs) e).0
 each-passes test {xs = y ∷ xs} e (Memᴰ.tail listed) = each-passes test (both (test y) (every test xs) e).1 listed
 

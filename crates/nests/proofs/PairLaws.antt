@@ -2,7 +2,7 @@
 -- four are the pairs where it leaves a remainder. Assumes nothing.
 use mathlib.Core.Path.{◌≡◌, refl, sym, ◌∙◌, subst}
 use mathlib.Core.Bool.{Bool, true, false, true≢false, ◌&&◌, not}
-use mathlib.Core.List.{List, ◌∷◌, map, Memᴰ}
+use mathlib.Core.List.{List, [], ◌∷◌, map, Memᴰ}
 use mathlib.Core.Logic.{◌⊎◌, inl, inr}
 use Prim.Native.Nat.{ℕ, ◌*◌, ◌/◌, ◌%◌, ◌<◌}
 use native.Mathlib.Nat.{div-add-mod', mul_comm}
@@ -26,6 +26,7 @@ abbrev passing : (ℕ → ℕ → Bool) → List (List ℕ)
 passing test = map (λ s. keep (test s) (from 1 9)) (from 1 9)
 
 map-alike : (f g : ℕ → List ℕ) (l : List ℕ) {s : ℕ} → map f l ≡ map g l → Memᴰ s l → f s ≡ g s
+map-alike f g [] e m = elim m [ ]
 map-alike f g (x ∷ l) e (Memᴰ.head h) = let p : f x ≡ g x = cc in rw h p
 map-alike f g (x ∷ l) e (Memᴰ.tail m) = let p : map f l ≡ map g l = cc in map-alike f g l p m
 

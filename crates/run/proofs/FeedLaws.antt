@@ -235,3 +235,7 @@ whole_row block number {a = a} {i = i} {size = size} b q w =
     let line : take size (take (length block - a) (drop a block)) ≡ block = ap (take size) (rest-is block a) ∙ take_all size (drop a block) (omega arith) ∙ all in
     let same : number + i ≡ number = omega (arith, b.3) in
     rw (b.0, b.2, line, same) at w
+
+-- of a whole block nothing is done yet
+abbrev pub Begins : Bool → List ℕ → List ℕ → ℕ → ℕ → ℕ → Type 0
+Begins whole out₀ out a at i = whole ≡ true → (out ≡ out₀) × (a ≡ 0) × (at ≡ 0) × (i ≡ 0)

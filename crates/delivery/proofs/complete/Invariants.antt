@@ -1,13 +1,7 @@
 -- Each turn judges one place of the cover by its mark. Assumes nothing.
-use mathlib.Core.Bool.{false}
-use Prim.Native.Nat.{◌-◌, ◌<◌}
-use native.Mathlib.Omega.{arith}
-use borrow.Author.Rules.{rules}
-use borrow.Author.Tests.{not-true, not-false}
-use lib.ListN.{get_or}
+use Prim.Native.Nat.{◌-◌}
 use Rattle.delivery.specs.Given.{sheets_of, count_of, marked_place}
-use Rattle.delivery.proofs.TurnLaws.{Turning, turning-first, turning-more}
-use Rattle.delivery.proofs.MarkLaws.{first-missing, all_there}
+use Rattle.delivery.proofs.TurnLaws.{Turning}
 use Rattle.delivery.proofs.complete.Given as goal
 
 abbrev pub invariant-loop-place : goal.invariant-loop-place

@@ -1,11 +1,7 @@
 -- Each turn writes one gap, and leaves the rest of the list to be written behind it. Assumes nothing.
-use borrow.Author.Rules.{rules}
-use native.Mathlib.Omega.{arith}
 use Prim.Native.Nat.{◌-◌}
 use lib.ListN.{length}
-use Rattle.shelf.specs.Kind.{kind_of}
-use Rattle.shelf.proofs.KindLaws.{works}
-use Rattle.shelf.proofs.WritingLaws.{set-in, length-list, Putting, putting-first, putting-next, putting-done, gap-fits, here, here-small}
+use Rattle.shelf.proofs.WritingLaws.{Putting}
 use Rattle.list_writing.proofs.put_list.Given as goal
 
 abbrev pub invariant-loop-i : goal.invariant-loop-i

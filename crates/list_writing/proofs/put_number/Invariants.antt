@@ -1,11 +1,7 @@
 -- Each turn writes the low group of what is left, with the high bit where more follow. Assumes nothing.
-use borrow.Author.Rules.{rules}
-use native.Mathlib.Omega.{arith}
-use mathlib.Core.Path.{refl}
-use mathlib.Core.Bool.{true, cond}
-use mathlib.Core.Logic.{⊎_elim}
+use mathlib.Core.Bool.{cond}
 use Prim.Native.Nat.{suc}
-use Rattle.shelf.proofs.NumberLaws.{Grouping, grouping-first, grouping-on, grouping-done, next_more, next_last}
+use Rattle.shelf.proofs.NumberLaws.{Grouping}
 use Rattle.list_writing.proofs.put_number.Given as goal
 
 abbrev pub invariant-loop-more : goal.invariant-loop-more

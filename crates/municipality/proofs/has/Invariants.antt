@@ -1,8 +1,7 @@
 -- The sheet is one of the list if it is one of those looked at, or of those that are left. Assumes nothing.
 use Prim.Native.Nat.{◌-◌}
-use borrow.Author.Rules.{rules}
 use lib.ListN.{length}
-use Rattle.municipality.proofs.SeekLaws.{Seeking, seeking-first, seeking-next, seeking-done}
+use Rattle.municipality.proofs.SeekLaws.{Seeking}
 use Rattle.municipality.proofs.has.Given as goal
 
 abbrev pub invariant-loop-i : goal.invariant-loop-i

@@ -1,12 +1,9 @@
 -- The bytes passed are bytes of a name, so those that are left decide. Assumes nothing.
-use mathlib.Core.Path.{◌≡◌, refl, sym, ◌∙◌}
+use mathlib.Core.Path.{◌≡◌}
 use Prim.Native.Nat.{◌-◌, ◌≤◌}
-use native.Mathlib.Omega.{arith}
-use borrow.Author.Tests.{le-leb, lt-leb, eq-eqb, ne_eqb}
-use lib.ListN.{length, get_or, drop}
+use lib.ListN.{length, drop}
 use Rattle.label.specs.Text.{every}
 use Rattle.catalogue.specs.Line.{is_name_byte}
-use Rattle.catalogue.proofs.LineLaws.{every-fails, every-on, every-end}
 use Rattle.catalogue.proofs.line.all_name_bytes.Given as goal
 
 abbrev pub invariant-loop-i : goal.invariant-loop-i

@@ -1,14 +1,10 @@
 -- What the whole block gives the room is what is left of it from place i on gives the room as it then is. The measure is what is left. Assumes nothing.
-use mathlib.Core.Path.{◌≡◌, sym, ◌∙◌}
+use mathlib.Core.Path.{◌≡◌}
 use Prim.Native.Nat.{◌-◌, ◌≤◌}
-use native.Mathlib.Omega.{arith}
-use borrow.Author.Rules.{rules}
-use lib.ListN.{length, drop, length-set}
+use lib.ListN.{length, drop}
 use lib.Seq.{sets}
 use Rattle.division.specs.Words.{from}
 use Rattle.division.specs.Cover.{block}
-use Rattle.division.proofs.TableLaws.{rules}
-use Rattle.division.proofs.BlockLaws.{some, placed, turn, done}
 use Rattle.division.proofs.cover.fill.Given as goal
 
 abbrev pub invariant-loop-i : goal.invariant-loop-i

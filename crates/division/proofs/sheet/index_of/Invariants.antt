@@ -1,7 +1,5 @@
 -- Each turn takes the number in the parent and goes on at the parent's place, up to a scale that is made from the area. The measure is the parent. Assumes nothing.
-use native.Mathlib.Omega.{arith}
-use borrow.Author.Rules.{rules}
-use Rattle.division.proofs.FamilyLaws.{Climb, climb-first, climb-area, climb-small, climb-done, climb-parted, climb-up, climb-sum, climb-each, climb-next}
+use Rattle.division.proofs.FamilyLaws.{Climb}
 use Rattle.division.proofs.sheet.index_of.Given as goal
 
 abbrev pub invariant-loop-t : goal.invariant-loop-t

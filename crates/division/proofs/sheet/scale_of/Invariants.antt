@@ -1,13 +1,8 @@
 -- The scales counted so far, and those that are left to ask, make the scale. Assumes nothing.
-use mathlib.Core.Path.{◌≡◌, ◌∙◌}
+use mathlib.Core.Path.{◌≡◌}
 use Prim.Native.Nat.{◌+◌, ◌-◌, ◌≤◌, ◌<◌}
-use native.Mathlib.Nat.{zero-add}
-use native.Mathlib.Omega.{arith}
-use borrow.Author.Rules.{rules}
-use Rattle.division.specs.Words.{◌≤?◌}
-use Rattle.division.specs.Table.{first}
 use Rattle.division.specs.Sheet.{scale_of}
-use Rattle.division.proofs.NumberLaws.{begun_from, begun-scales, at_most_one, one-asked, all_asked}
+use Rattle.division.proofs.NumberLaws.{begun_from}
 use Rattle.division.proofs.sheet.scale_of.Given as goal
 
 abbrev pub invariant-loop-s : goal.invariant-loop-s

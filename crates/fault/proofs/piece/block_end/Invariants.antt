@@ -1,8 +1,6 @@
 -- The least place so far is the first mark, or all places so far are without. The measure is the number of places left. Assumes nothing.
 use Prim.Native.Nat.{◌-◌, ◌≤◌}
-use native.Mathlib.Omega.{arith}
-use borrow.Author.Rules.{rules}
-use Rattle.fault.proofs.BlockLaws.{Sought, sought-first, sought-next, sought-all}
+use Rattle.fault.proofs.BlockLaws.{Sought}
 use Rattle.fault.proofs.piece.block_end.Given as goal
 
 abbrev pub invariant-loop-j : goal.invariant-loop-j

@@ -1,12 +1,8 @@
 -- The piece goes on from the place that the loop has come to: it ends in the block there, or the block is passed. The measure is what is left. Assumes nothing.
 use mathlib.Core.Path.{◌≡◌}
-use mathlib.Core.List.{List}
-use Prim.Native.Nat.{ℕ, ◌+◌, ◌-◌, ◌≤◌}
-use native.Mathlib.Omega.{arith}
-use borrow.Author.Rules.{rules}
-use lib.ListN.{length, take, drop, length-drop}
-use lib.Seq.{length-take-le}
-use Rattle.label.proofs.PieceLaws.{piece, in_block, past-block}
+use Prim.Native.Nat.{◌+◌, ◌-◌, ◌≤◌}
+use lib.ListN.{length, drop}
+use Rattle.label.proofs.PieceLaws.{piece}
 use Rattle.fault.proofs.piece.piece_end.Given as goal
 
 abbrev pub invariant-loop-i : goal.invariant-loop-i

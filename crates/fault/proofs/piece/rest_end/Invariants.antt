@@ -1,9 +1,8 @@
 -- The piece goes on from the place that the loop has come to, and it ends there at a mark or at the end. The measure is what is left. Assumes nothing.
 use mathlib.Core.Path.{◌≡◌}
 use Prim.Native.Nat.{◌+◌, ◌-◌}
-use native.Mathlib.Omega.{arith}
 use lib.ListN.{length, drop}
-use Rattle.label.proofs.PieceLaws.{piece, at_mark, past-byte, at-end}
+use Rattle.label.proofs.PieceLaws.{piece}
 use Rattle.fault.proofs.piece.rest_end.Given as goal
 
 abbrev pub invariant-loop-i : goal.invariant-loop-i

@@ -2,12 +2,9 @@
 -- nothing.
 use mathlib.Core.Path.{◌≡◌}
 use Prim.Native.Nat.{◌+◌, ◌-◌, ◌≤◌}
-use native.Mathlib.Omega.{arith}
-use borrow.Author.Tests.{not-true, not-false}
 use lib.ListN.{length, drop}
 use Rattle.label.specs.Text.{first_not}
 use Rattle.label.specs.Label.{is_label_byte}
-use Rattle.label.proofs.PlaceLaws.{first-here, first_on, first-end}
 use Rattle.fault.proofs.place.strange_byte.Given as goal
 
 abbrev pub invariant-loop-i : goal.invariant-loop-i

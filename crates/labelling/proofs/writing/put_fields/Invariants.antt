@@ -1,7 +1,5 @@
 -- Each turn puts the number in the parent and goes on with the parent's fields, up to a scale that is made from the area. The measure is the parent. Assumes nothing.
-use native.Mathlib.Omega.{arith}
-use borrow.Author.Rules.{rules}
-use Rattle.labelling.proofs.WritingLaws.{Going, going-first, area-room, going_done, some-parts, higher, number-room, going_next}
+use Rattle.labelling.proofs.WritingLaws.{Going}
 use Rattle.labelling.proofs.writing.put_fields.Given as goal
 
 abbrev pub invariant-loop-t : goal.invariant-loop-t

@@ -1,10 +1,6 @@
 -- Fewer than n orders are below `low`, at least n below `high`, and the two come together. Assumes nothing.
-use mathlib.Core.Path.{◌≡◌}
-use Prim.Native.Nat.{◌+◌, ◌-◌, ◌≤◌, ◌<◌}
-use native.Mathlib.Omega.{arith}
-use borrow.Author.Rules.{rules}
+use Prim.Native.Nat.{◌-◌, ◌≤◌, ◌<◌}
 use Rattle.local.specs.Given.{count_below}
-use Rattle.local.proofs.CountLaws.{reached-first}
 use Rattle.local.proofs.rows.nth.Given as goal
 
 abbrev pub invariant-loop-high : goal.invariant-loop-high

@@ -1,14 +1,9 @@
 -- The places before i have the orders of the sheets before i. Assumes nothing.
-use mathlib.Core.Path.{◌≡◌, refl, ◌∙◌}
+use mathlib.Core.Path.{◌≡◌}
 use mathlib.Core.List.{map}
 use Prim.Native.Nat.{◌-◌, ◌≤◌}
-use native.Mathlib.Omega.{arith}
-use borrow.Author.Rules.{rules}
-use lib.ListN.{length, take, length-set}
+use lib.ListN.{length, take}
 use Rattle.division.specs.Sheet.{reading_order}
-use Rattle.division.proofs.MemberLaws.{mem-at}
-use Rattle.local.proofs.MunicipalityLaws.{few, member-scale}
-use Rattle.local.proofs.RowLaws.{put_order, all-orders}
 use Rattle.local.proofs.rows.orders.Given as goal
 
 abbrev pub invariant-loop-i : goal.invariant-loop-i

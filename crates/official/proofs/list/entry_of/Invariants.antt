@@ -1,14 +1,9 @@
 -- The entries passed are of other sheets, so the name is among those that are left. The measure is what is left. Assumes nothing.
-use mathlib.Core.Path.{◌≡◌, refl, sym, ◌∙◌}
-use mathlib.Core.List.{[]}
+use mathlib.Core.Path.{◌≡◌}
 use Prim.Native.Nat.{◌-◌, ◌≤◌}
-use native.Mathlib.Omega.{arith}
-use borrow.Author.Rules.{rules}
-use lib.ListN.{get_or}
 use Rattle.official.specs.Lookup.{name_of}
-use Rattle.official.specs.Theorems.{row_at}
 use Rattle.official.proofs.LookupTheorems.{of_sheet}
-use Rattle.official.proofs.ListLaws.{IsRow, is_row, left_from, none_left, name_in, name-here, other-sheet}
+use Rattle.official.proofs.ListLaws.{left_from, name_in}
 use Rattle.official.proofs.list.entry_of.Given as goal
 
 abbrev pub invariant-loop-i : goal.invariant-loop-i

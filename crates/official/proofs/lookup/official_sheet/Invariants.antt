@@ -1,16 +1,9 @@
 -- The entries passed have other names, so the sheet is among those that are left. The measure is what is left. Assumes nothing.
-use mathlib.Core.Path.{◌≡◌, refl, sym, ◌∙◌}
-use mathlib.Core.List.{[]}
-use mathlib.Core.Option.{bind}
+use mathlib.Core.Path.{◌≡◌}
 use Prim.Native.Nat.{◌-◌, ◌≤◌}
-use native.Mathlib.Omega.{arith}
-use borrow.Author.Rules.{rules}
-use lib.ListN.{get_or}
-use lib.Seq.{length-take-le}
 use Rattle.official.specs.Lookup.{sheet_called}
-use Rattle.official.specs.Theorems.{row_at}
 use Rattle.official.proofs.LookupTheorems.{of_name}
-use Rattle.official.proofs.ListLaws.{IsRow, is_row, left_from, none_left, sheet_found, sheet-here, other_name}
+use Rattle.official.proofs.ListLaws.{left_from, sheet_found}
 use Rattle.official.proofs.lookup.official_sheet.Given as goal
 
 abbrev pub invariant-loop-i : goal.invariant-loop-i

@@ -1,11 +1,7 @@
 -- Each turn takes a digit into the number, and what is left to read stays the same run. Assumes nothing.
-use mathlib.Core.Path.{refl, ◌∙◌}
 use Prim.Native.Nat.{◌-◌}
-use native.Mathlib.Omega.{arith}
-use borrow.Author.Rules.{rules}
 use lib.ListN.{length}
-use Rattle.refusal.proofs.PaperLaws.{fails, holds}
-use Rattle.reading.proofs.DigitLaws.{Reading, sixteen, digit_low, digit-few, reads_on, ends_at, ends-out}
+use Rattle.reading.proofs.DigitLaws.{Reading}
 use Rattle.reading.proofs.numbers.digits.Given as goal
 
 abbrev pub invariant-loop-i : goal.invariant-loop-i

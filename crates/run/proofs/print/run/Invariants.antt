@@ -1,11 +1,6 @@
 -- After every turn what was sunk and what is still to be printed are the whole; what is left to read and to do falls. Assumes nothing.
-use mathlib.Core.Path.{refl, sym}
-use native.Mathlib.Omega.{arith}
 use lib.ListN.{length}
-use lib.Seq.{length-take-le}
-use Rattle.refusal.proofs.PaperLaws.{fails, holds}
-use Rattle.run.proofs.SinkLaws.{sunk-within, sunk-long}
-use Rattle.run.proofs.RunLaws.{Running, to_go, run-first, run_on, run-less, run_end}
+use Rattle.run.proofs.RunLaws.{Running, to_go}
 use Rattle.run.proofs.print.run.Given as goal
 
 abbrev pub invariant-loop-s : goal.invariant-loop-s

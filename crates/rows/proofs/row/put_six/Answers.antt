@@ -1,0 +1,11 @@
+-- A space, and the edge's hundreds as six digits of metres. Assumes nothing.
+use native.Mathlib.Omega.{arith}
+use Rattle.refusal.proofs.WroteLaws.{then}
+use Rattle.rows.proofs.HundredLaws.{six, counted}
+use Rattle.rows.proofs.row.put_six.Goals as goal
+
+pub returns : goal.returns
+returns c =
+    let h = c.requires.hundreds in
+    let w = then c.put_byte-a.ensures c.put_hundreds.ensures in
+    record { wrote = rw (six h) (rw (counted h (omega arith)) at w); value = w.end }
