@@ -1,7 +1,7 @@
 /* Qubathimi for C and for any language that calls C: map sheets of nine scales, their frames, covers and deliveries, labels, catalogue
  * lines, official names, local numbers, holdings and shelf lists.
  *
- * `rt staticlib qubathimi_c` proves the functions and writes target/staticlib/libqubathimi_c.a, for x86-64 Linux; link it with a program
+ * `rt lib` in crates/qubathimi_c proves the functions and writes out/libqubathimi_c.a there, for x86-64 Linux; link it with a program
  * that includes this header. Of the C library it calls memcpy and memset and nothing else. It allocates nothing, needs no setting up and
  * keeps nothing between calls, so any number of them may run at once. examples/use.c shows it in use. docs/DEFINITION.md says what sheets,
  * labels and lists are; "document 01" and "document 02" are the papers that it tells of.

@@ -1,7 +1,7 @@
 // What is asked of shelf lists, and of bytes that are changed. A question that begins with a capital is the same question of holdings.
 use crate::part::{bytes_before, sheets_before};
 use crate::read::{size, small};
-use crate::write::OUT;
+use crate::write::To;
 use crate::{labels, read, room, write};
 use list_reading::{read_holdings, read_list};
 use list_writing::{holdings_length, list_length, write_holdings, write_list};
@@ -18,8 +18,8 @@ const FEW: usize = 64;
 // Each of the 256 in each place of a question's bytes.
 const CHANGES: usize = 131072;
 
-pub(crate) fn groups(s: &[u8]) {
-    write::number(OUT, number::groups(small(s, 1)) as u64);
+pub(crate) fn groups(to: To, s: &[u8]) {
+    write::number(to, number::groups(small(s, 1)) as u64);
 }
 
 // Whether a question is of holdings.
@@ -28,19 +28,19 @@ fn new(s: &[u8]) -> bool {
 }
 
 // The sheets of the question, in room for so many bytes.
-pub(crate) fn pack(s: &[u8]) {
+pub(crate) fn pack(to: To, s: &[u8]) {
     let mut sheets = [0u32; MOST];
     let n = size(s, 2);
     given(s, 3, n, &mut sheets);
-    writing(OUT, new(s), front(n, &sheets), size(s, 1));
+    writing(to, new(s), front(n, &sheets), size(s, 1));
 }
 
 // Sheets by a rule, one of them another, in room for so many bytes.
-pub(crate) fn rule(s: &[u8]) {
+pub(crate) fn rule(to: To, s: &[u8]) {
     let mut sheets = [0u32; MOST];
     ruled(small(s, 2), small(s, 3), &mut sheets);
     put(size(s, 5), small(s, 6), &mut sheets);
-    writing(OUT, new(s), front(size(s, 4), &sheets), size(s, 1));
+    writing(to, new(s), front(size(s, 4), &sheets), size(s, 1));
 }
 
 // So many sheets of a question, behind so many spaces.
@@ -81,7 +81,7 @@ pub(crate) fn front(n: usize, sheets: &[u32; MOST]) -> &[u32] {
 }
 
 // The length, and the list in room for so many bytes.
-fn writing(to: u64, new: bool, sheets: &[u32], size: usize) -> u64 {
+fn writing(to: To, new: bool, sheets: &[u32], size: usize) -> To {
     let t = write::comma(write::laid(to, length(new, sheets)));
     let mut places = [room::MARK; room::BYTES];
     written(t, new, sheets, room::bytes(&mut places, size))
@@ -94,7 +94,7 @@ fn length(new: bool, sheets: &[u32]) -> Laid {
     list_length(sheets)
 }
 
-fn written(to: u64, new: bool, sheets: &[u32], places: &mut [u8]) -> u64 {
+fn written(to: To, new: bool, sheets: &[u32], places: &mut [u8]) -> To {
     let laid = list(new, sheets, places);
     let n = room::count(laid);
     let t = room::show_bytes(write::laid(to, laid), n, places);
@@ -110,7 +110,7 @@ fn list(new: bool, sheets: &[u32], places: &mut [u8]) -> Laid {
 
 // What is read again where a list was written, which has at least a byte: from the list, from the list without its last
 // byte and with the byte that follows in the room, and from the list in room for a sheet less.
-fn back(to: u64, new: bool, n: usize, places: &[u8], count: usize) -> u64 {
+fn back(to: To, new: bool, n: usize, places: &[u8], count: usize) -> To {
     if n == 0 {
         return to;
     }
@@ -126,7 +126,7 @@ fn back(to: u64, new: bool, n: usize, places: &[u8], count: usize) -> u64 {
 }
 
 // Reads a list in room for so many sheets.
-fn reading(to: u64, new: bool, bytes: &[u8], size: usize) -> u64 {
+fn reading(to: To, new: bool, bytes: &[u8], size: usize) -> To {
     let t = write::named(to, b" from", bytes.len() as u64);
     let u = write::named(t, b" in", size as u64);
     if size > FEW {
@@ -136,12 +136,12 @@ fn reading(to: u64, new: bool, bytes: &[u8], size: usize) -> u64 {
     read_in(u, new, bytes, room::sheets(&mut places, size))
 }
 
-fn reading_many(to: u64, new: bool, bytes: &[u8], size: usize) -> u64 {
+fn reading_many(to: To, new: bool, bytes: &[u8], size: usize) -> To {
     let mut places = [room::NO_SHEET; room::SHEETS];
     read_in(to, new, bytes, room::sheets(&mut places, size))
 }
 
-fn read_in(to: u64, new: bool, bytes: &[u8], places: &mut [u32]) -> u64 {
+fn read_in(to: To, new: bool, bytes: &[u8], places: &mut [u32]) -> To {
     let r = read_by(new, bytes, places);
     let ended = r.ended;
     let n = r.placed;
@@ -157,47 +157,47 @@ fn read_by(new: bool, bytes: &[u8], places: &mut [u32]) -> Read {
 }
 
 // What is read as a label, or of holdings by the old reader, and as a list in room for so many sheets.
-fn both(to: u64, new: bool, bytes: &[u8], size: usize) -> u64 {
+fn both(to: To, new: bool, bytes: &[u8], size: usize) -> To {
     reading(write::comma(first(to, new, bytes, size)), new, bytes, size)
 }
 
-fn first(to: u64, new: bool, bytes: &[u8], size: usize) -> u64 {
+fn first(to: To, new: bool, bytes: &[u8], size: usize) -> To {
     if new {
         return reading(to, false, bytes, size);
     }
     labels::reading(to, bytes)
 }
 
-pub(crate) fn bytes(s: &[u8]) {
+pub(crate) fn bytes(to: To, s: &[u8]) {
     let mut bytes = [0u8; read::BYTES];
     let n = read::bytes(s, &mut bytes);
-    both(OUT, new(s), read::front(n, &bytes), size(s, 1));
+    both(to, new(s), read::front(n, &bytes), size(s, 1));
 }
 
 // Every beginning of a list, the shortest first.
-pub(crate) fn heads(s: &[u8]) {
+pub(crate) fn heads(to: To, s: &[u8]) {
     let mut bytes = [0u8; read::BYTES];
     let n = read::bytes(s, &mut bytes);
-    beginnings(new(s), read::front(n, &bytes), size(s, 1));
+    beginnings(to, new(s), read::front(n, &bytes), size(s, 1));
 }
 
-fn beginnings(new: bool, bytes: &[u8], size: usize) {
+fn beginnings(to: To, new: bool, bytes: &[u8], size: usize) {
     let mut n = 0;
     while n < bytes.len() {
-        reading(OUT, new, bytes_before(bytes, n), size);
+        reading(to, new, bytes_before(bytes, n), size);
         n += 1;
     }
-    reading(OUT, new, bytes, size);
+    reading(to, new, bytes, size);
 }
 
 // A sum over what is read when each byte in turn is changed to each of the 256.
-pub(crate) fn vary(s: &[u8]) {
+pub(crate) fn vary(to: To, s: &[u8]) {
     let mut bytes = [0u8; read::BYTES];
     let n = read::bytes(s, &mut bytes);
-    write::number(OUT, changes(new(s), n, bytes, size(s, 1)));
+    write::number(to, write::sum_of(changes(new(s), n, bytes, size(s, 1))));
 }
 
-fn changes(new: bool, n: usize, bytes: [u8; read::BYTES], size: usize) -> u64 {
+fn changes(new: bool, n: usize, bytes: [u8; read::BYTES], size: usize) -> To {
     let mut sum = write::SUM;
     let mut i = 0;
     while i < CHANGES {
@@ -212,14 +212,14 @@ fn changes(new: bool, n: usize, bytes: [u8; read::BYTES], size: usize) -> u64 {
 
 // With another byte in a place.
 fn with_change(
-    sum: u64,
+    sum: To,
     new: bool,
     place: usize,
     byte: u8,
     n: usize,
     mut bytes: [u8; read::BYTES],
     size: usize,
-) -> u64 {
+) -> To {
     if place < read::BYTES {
         bytes[place] = byte;
     }
@@ -227,13 +227,13 @@ fn with_change(
 }
 
 // A sum over the sets of fewer than so many sheets by a rule.
-pub(crate) fn many(s: &[u8]) {
+pub(crate) fn many(to: To, s: &[u8]) {
     let mut sheets = [0u32; MOST];
     ruled(small(s, 1), small(s, 2), &mut sheets);
-    write::number(OUT, sets(size(s, 3), &sheets));
+    write::number(to, write::sum_of(sets(size(s, 3), &sheets)));
 }
 
-fn sets(many: usize, sheets: &[u32; MOST]) -> u64 {
+fn sets(many: usize, sheets: &[u32; MOST]) -> To {
     let mut sum = write::SUM;
     let mut n = 0;
     while n < many {

@@ -18,17 +18,39 @@ mod spelt;
 mod supplied;
 mod write;
 
-use libc::STDIN_FILENO;
+ghost use Rattle.std.specs.Prelude.{◌≤◌, length};
+
+use std::io::Read;
+use write::To;
 
 // Room for the questions: 256 KiB.
 const TEXT: usize = 262144;
 
-fn main() {
+fn main(rt: HostRuntime) {
     let mut text = [0u8; TEXT];
-    asked(&mut text);
+    asked(To::Out(rt.stdout()), &mut rt.stdin(), &mut text);
 }
 
-fn asked(text: &mut [u8; TEXT]) {
-    let n = io::read_full(STDIN_FILENO, text);
-    ask::lines(part::bytes_before(text, n));
+fn asked(to: To, input: &mut impl Read, text: &mut [u8; TEXT]) {
+    let n = taken(input, text);
+    ask::lines(to, part::bytes_before(text, n));
+}
+
+// Reads the input to its end, or as much of it as there is room for or as can be read, and gives how many bytes that is.
+fn taken(input: &mut impl Read, text: &mut [u8]) -> usize
+    ensures { result ≤ length text.new }
+{
+    let mut n = 0;
+    for _ in 0..u64::MAX {
+        match input.read(&mut text[n..]) {
+            Ok(k) => {
+                if k == 0 {
+                    break;
+                }
+                n += k;
+            }
+            Err(_) => break,
+        }
+    }
+    n
 }

@@ -1,6 +1,7 @@
 // Lent room, every place of which is looked at afterwards.
 use crate::part::{bytes_before, sheets_before};
 use crate::write;
+use crate::write::To;
 use refusal::Laid;
 
 // Stands in every place of room for bytes before the question. No label has this byte.
@@ -42,15 +43,19 @@ pub(crate) fn count(l: Laid) -> usize {
 }
 
 // The first so many bytes in hexadecimal, and how many of the others keep their mark.
-pub(crate) fn show_bytes(to: u64, n: usize, places: &[u8]) -> u64 {
+pub(crate) fn show_bytes(to: To, n: usize, places: &[u8]) -> To {
     let s = bytes_before(places, n);
     if n > LISTED {
-        return kept_bytes(write::named(to, b" sum", digits(write::SUM, s)), n, places);
+        return kept_bytes(
+            write::named(to, b" sum", write::sum_of(digits(write::SUM, s))),
+            n,
+            places,
+        );
     }
     kept_bytes(digits(write::text(to, b" "), s), n, places)
 }
 
-fn digits(to: u64, s: &[u8]) -> u64 {
+fn digits(to: To, s: &[u8]) -> To {
     let mut t = to;
     let mut i = 0;
     while i < s.len() {
@@ -61,7 +66,7 @@ fn digits(to: u64, s: &[u8]) -> u64 {
 }
 
 // How many places behind the first so many hold the mark.
-pub(crate) fn kept_bytes(to: u64, n: usize, places: &[u8]) -> u64 {
+pub(crate) fn kept_bytes(to: To, n: usize, places: &[u8]) -> To {
     let mut held: u64 = 0;
     let mut i = n;
     while i < places.len() {
@@ -74,15 +79,19 @@ pub(crate) fn kept_bytes(to: u64, n: usize, places: &[u8]) -> u64 {
 }
 
 // The first so many sheets, and how many of the other places keep their mark.
-pub(crate) fn show_sheets(to: u64, n: usize, places: &[u32]) -> u64 {
+pub(crate) fn show_sheets(to: To, n: usize, places: &[u32]) -> To {
     let s = sheets_before(places, n);
     if n > LISTED {
-        return kept_sheets(write::named(to, b" sum", listed(write::SUM, s)), n, places);
+        return kept_sheets(
+            write::named(to, b" sum", write::sum_of(listed(write::SUM, s))),
+            n,
+            places,
+        );
     }
     kept_sheets(listed(to, s), n, places)
 }
 
-fn listed(to: u64, s: &[u32]) -> u64 {
+fn listed(to: To, s: &[u32]) -> To {
     let mut t = to;
     let mut i = 0;
     while i < s.len() {
@@ -92,7 +101,7 @@ fn listed(to: u64, s: &[u32]) -> u64 {
     t
 }
 
-fn kept_sheets(to: u64, n: usize, places: &[u32]) -> u64 {
+fn kept_sheets(to: To, n: usize, places: &[u32]) -> To {
     let mut held: u64 = 0;
     let mut i = n;
     while i < places.len() {

@@ -2,29 +2,29 @@
 use crate::lists::{MOST, front};
 use crate::part::sheets_before;
 use crate::read::{signed, size, small};
-use crate::write::OUT;
+use crate::write::To;
 use crate::{lists, room, write};
 use delivery::{Delivered, check_delivery};
 use division::Edges;
 use division::cover::cover;
 
 // Of the question's sheets.
-pub(crate) fn deliver(s: &[u8]) {
+pub(crate) fn deliver(to: To, s: &[u8]) {
     let mut sheets = [0u32; MOST];
     let n = size(s, 6);
     lists::given(s, 7, n, &mut sheets);
-    checked(s, front(n, &sheets));
+    checked(to, s, front(n, &sheets));
 }
 
 // Of the cover's own sheets, by a rule, one of them another.
-pub(crate) fn supply(s: &[u8]) {
+pub(crate) fn supply(to: To, s: &[u8]) {
     let mut places = [room::NO_SHEET; room::SHEETS];
     let n = room::count(cover(small(s, 1), window(s), &mut places));
     let mut sheets = [0u32; MOST];
     lists::ruled(small(s, 6), small(s, 7), &mut sheets);
     taken(sheets_before(&places, n), &mut sheets);
     lists::put(size(s, 9), small(s, 10), &mut sheets);
-    checked(s, front(size(s, 8), &sheets));
+    checked(to, s, front(size(s, 8), &sheets));
 }
 
 fn window(s: &[u8]) -> Edges {
@@ -54,13 +54,13 @@ fn sheet_at(cover: &[u32], n: u32) -> u32 {
     cover[place]
 }
 
-fn checked(s: &[u8], sheets: &[u32]) {
+fn checked(to: To, s: &[u8], sheets: &[u32]) {
     match check_delivery(small(s, 1), window(s), sheets) {
         Delivered::Whole(n) => {
-            write::small(OUT, n);
+            write::small(to, n);
         }
         Delivered::Refused(r) => {
-            write::refused(OUT, r);
+            write::refused(to, r);
         }
     }
 }

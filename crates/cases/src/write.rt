@@ -1,23 +1,40 @@
-// Writing to standard output, or into a sum. Each function is told where to write and hands that on: 0 is standard
-// output, and any other number is a sum, in which every byte that was written and its place count.
+// Writing to standard output, or into a sum. Each function is told where to write and hands that on.
+ghost use Rattle.std.specs.Prelude.{◌<◌};
+
 use division::Found;
-use libc::STDOUT_FILENO;
+use itoa::Buffer;
 use refusal::{Laid, Refusal};
 use relations::Neighbour;
 use shelf::Ended;
+use std::io::Stdout;
 use std::num::wrapping_add_u64;
 
-pub(crate) const OUT: u64 = 0;
+// Where to write: standard output, or a sum, in which every byte that was written and its place count.
+#[derive(Clone, Copy)]
+pub(crate) enum To {
+    Out(Stdout),
+    Sum(u64),
+}
 
 // A sum into which nothing was written yet.
-pub(crate) const SUM: u64 = 1;
+pub(crate) const SUM: To = To::Sum(1);
 
-pub(crate) fn text(to: u64, s: &[u8]) -> u64 {
-    if to == OUT {
-        io::write_all(STDOUT_FILENO, s);
-        return OUT;
+// The sum; 0 for standard output, which has none.
+pub(crate) fn sum_of(to: To) -> u64 {
+    match to {
+        To::Out(_) => 0,
+        To::Sum(sum) => sum,
     }
-    summed(to, s)
+}
+
+pub(crate) fn text(to: To, s: &[u8]) -> To {
+    match to {
+        To::Out(out) => {
+            let _ = out.write_all(s);
+            to
+        }
+        To::Sum(sum) => To::Sum(summed(sum, s)),
+    }
 }
 
 fn summed(sum: u64, s: &[u8]) -> u64 {
@@ -36,32 +53,36 @@ fn mixed(sum: u64, b: u8) -> u64 {
     (sum % MODULUS * 31 + b as u64) % MODULUS + 1
 }
 
-pub(crate) fn comma(to: u64) -> u64 {
+pub(crate) fn comma(to: To) -> To {
     text(to, b",")
 }
 
-fn decimal(to: u64, n: u64) -> u64 {
-    let mut digits = [0u8; 20];
-    let k = io::decimal(n, &mut digits);
-    text(to, &digits[..k])
+fn decimal(to: To, n: u64) -> To {
+    let mut digits = Buffer::new();
+    text(to, digits.format(n).as_bytes())
 }
 
-pub(crate) fn hexadecimal(to: u64, b: u8) -> u64 {
-    let mut digits = [0u8; 16];
-    let k = io::hex(b as u64, 2, &mut digits);
-    text(to, &digits[..k])
+// A hexadecimal digit.
+fn digit(n: u8) -> u8
+    requires { n < 16 }
+{
+    if n < 10 { b'0' + n } else { b'a' + (n - 10) }
+}
+
+pub(crate) fn hexadecimal(to: To, b: u8) -> To {
+    text(to, &[digit(b / 16), digit(b % 16)])
 }
 
 // A number is written with a space in front.
-pub(crate) fn number(to: u64, n: u64) -> u64 {
+pub(crate) fn number(to: To, n: u64) -> To {
     decimal(text(to, b" "), n)
 }
 
-pub(crate) fn small(to: u64, n: u32) -> u64 {
+pub(crate) fn small(to: To, n: u32) -> To {
     number(to, n as u64)
 }
 
-pub(crate) fn named(to: u64, name: &[u8], n: u64) -> u64 {
+pub(crate) fn named(to: To, name: &[u8], n: u64) -> To {
     number(text(to, name), n)
 }
 
@@ -80,7 +101,7 @@ fn split_of(x: i64) -> Split {
     }
 }
 
-pub(crate) fn signed(to: u64, x: i64) -> u64 {
+pub(crate) fn signed(to: To, x: i64) -> To {
     match split_of(x) {
         Split::Plus(n) => number(to, n),
         Split::Minus(n) => decimal(text(to, b" -"), wrapping_add_u64(n, 1)),
@@ -88,7 +109,7 @@ pub(crate) fn signed(to: u64, x: i64) -> u64 {
 }
 
 // A float by its bits, and a hyphen for no number.
-pub(crate) fn float(to: u64, x: f64) -> u64 {
+pub(crate) fn float(to: To, x: f64) -> To {
     if x != x {
         return text(to, b" -");
     }
@@ -96,27 +117,27 @@ pub(crate) fn float(to: u64, x: f64) -> u64 {
 }
 
 // The refusal's number, and the room needed where it carries one.
-pub(crate) fn refused(to: u64, r: Refusal) -> u64 {
+pub(crate) fn refused(to: To, r: Refusal) -> To {
     let n = r.numbered();
     let t = named(to, b" refused", n.0 as u64);
     if n.2 { number(t, n.1 as u64) } else { t }
 }
 
-pub(crate) fn found(to: u64, f: Found) -> u64 {
+pub(crate) fn found(to: To, f: Found) -> To {
     match f {
         Found::Sheet(n) => small(to, n),
         Found::Refused(r) => refused(to, r),
     }
 }
 
-pub(crate) fn laid(to: u64, l: Laid) -> u64 {
+pub(crate) fn laid(to: To, l: Laid) -> To {
     match l {
         Laid::Items(n) => number(to, n as u64),
         Laid::Refused(r) => refused(to, r),
     }
 }
 
-pub(crate) fn ended(to: u64, e: Ended) -> u64 {
+pub(crate) fn ended(to: To, e: Ended) -> To {
     match e {
         Ended::Whole => text(to, b" whole"),
         Ended::Refused(r) => refused(to, r),
@@ -124,14 +145,14 @@ pub(crate) fn ended(to: u64, e: Ended) -> u64 {
 }
 
 // A sheet, or a hyphen for none.
-fn neighbour(to: u64, n: Neighbour) -> u64 {
+fn neighbour(to: To, n: Neighbour) -> To {
     match n {
         Neighbour::Sheet(s) => small(to, s),
         Neighbour::None => text(to, b" -"),
     }
 }
 
-fn row(to: u64, of: [Neighbour; 3]) -> u64 {
+fn row(to: To, of: [Neighbour; 3]) -> To {
     let west = of[0];
     let middle = of[1];
     let east = of[2];
@@ -139,7 +160,7 @@ fn row(to: u64, of: [Neighbour; 3]) -> u64 {
 }
 
 // Rows from the north.
-pub(crate) fn block(to: u64, of: [[Neighbour; 3]; 3]) -> u64 {
+pub(crate) fn block(to: To, of: [[Neighbour; 3]; 3]) -> To {
     let north = of[0];
     let middle = of[1];
     let south = of[2];

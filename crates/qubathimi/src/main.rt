@@ -4,8 +4,12 @@
 
 ghost use Rattle.std.specs.Prelude.{◌≤◌, length};
 
-use libc::{STDERR_FILENO, STDIN_FILENO, STDOUT_FILENO};
 use run::turn::{State, begin, turn};
+use std::io::Read;
+use std::process::ExitCode;
+
+// How many bytes the input has room for, and the rows: 64 KiB.
+const ROOM: usize = 65536;
 
 // How many bytes were read, and whether that failed.
 #[derive(Clone, Copy)]
@@ -15,7 +19,7 @@ struct Got {
 }
 
 // Where input is wanted, reads some behind what the buffer holds, and says so where it cannot.
-fn receive(buf: &mut [u8], s: State) -> Got
+fn receive(rt: &impl Eprint, input: &mut impl Read, buf: &mut [u8], s: State) -> Got
     requires { s.end ≤ length buf.old }
 {
     if !s.wants {
@@ -25,51 +29,56 @@ fn receive(buf: &mut [u8], s: State) -> Got
         };
     }
     let end = s.end;
-    let n = libc::read(STDIN_FILENO, &mut buf[end..]);
-    if n < 0 {
-        io::write_all(STDERR_FILENO, b"qubathimi: standard input cannot be read\n");
-    }
-    Got {
-        bytes: io::count(n, &buf[end..]),
-        failed: n < 0,
+    match input.read(&mut buf[end..]) {
+        Ok(bytes) => Got {
+            bytes,
+            failed: false,
+        },
+        Err(_) => {
+            let _ = eprintln!(rt; "qubathimi: standard input cannot be read");
+            Got {
+                bytes: 0,
+                failed: true,
+            }
+        }
     }
 }
 
 // Writes what stands in a buffer, and says so where it cannot.
-fn written(out: &[u8]) -> bool {
-    let done = io::write_all(STDOUT_FILENO, out);
-    if !done {
-        io::write_all(
-            STDERR_FILENO,
-            b"qubathimi: standard output cannot be written\n",
-        );
+fn written(rt: &(impl Print + Eprint), out: &[u8]) -> bool {
+    if rt.write_all(out).is_ok() {
+        return true;
     }
-    done
+    let _ = eprintln!(rt; "qubathimi: standard output cannot be written");
+    false
 }
 
-// Nothing says that the input ends, so the turns are counted down from a number that no run uses up.
-fn run(buf: &mut [u8], out: &mut [u8]) {
+// Whether all was read and written. Nothing says that the input ends, so the turns are counted, up to a number that no run uses up.
+fn run(rt: &(impl Print + Eprint), input: &mut impl Read, buf: &mut [u8], out: &mut [u8]) -> bool {
     let mut s = begin();
-    let mut turns = u64::MAX;
-    while turns > 0 {
-        let got = receive(buf, s);
+    for _ in 0..u64::MAX {
+        let got = receive(rt, input, buf, s);
         if got.failed {
-            break;
+            return false;
         }
         s = turn(buf, got.bytes, s, out);
         let rows = s.written;
-        if !written(&out[..rows]) {
-            break;
+        if !written(rt, &out[..rows]) {
+            return false;
         }
         if s.over {
             break;
         }
-        turns -= 1;
     }
+    true
 }
 
-fn main() {
-    let mut buf = io::large_buffer();
-    let mut out = io::large_buffer();
-    run(&mut buf, &mut out);
+fn main(rt: HostRuntime) -> ExitCode {
+    let mut buf = [0u8; ROOM];
+    let mut out = [0u8; ROOM];
+    if run(&rt, &mut rt.stdin(), &mut buf, &mut out) {
+        ExitCode::SUCCESS
+    } else {
+        ExitCode::FAILURE
+    }
 }
