@@ -29,13 +29,13 @@ returns-then-not-accepted c = rw (sym c.accepted.ensures ∙ c.if-not-accepted.t
 
 pub returns-then-label-end : goal.returns-then-label-end
 returns-then-label-end c =
-    let is-accepted : is_accepted c.args.line.now ≡ true = (sym c.accepted.ensures ∙ c.if-not-accepted.false) in
+    let is-accepted : is_accepted c.args.line.now ≡ true = sym c.accepted.ensures ∙ c.if-not-accepted.false in
     let label_is : c.label_end-label.result ≡ length (label_in c.args.line.now) = c.label_end-label.ensures ∙ omega (arith, short-label c.args.line.now is-accepted) in
     of_bare c.args.line.now is-accepted c.label_end-label.result label_is c.if-label-end.true
 
 pub returns : goal.returns
 returns c =
-    let is-accepted : is_accepted c.args.line.now ≡ true = (sym c.accepted.ensures ∙ c.if-not-accepted.false) in
+    let is-accepted : is_accepted c.args.line.now ≡ true = sym c.accepted.ensures ∙ c.if-not-accepted.false in
     let label_is : c.label_end-label.result ≡ length (label_in c.args.line.now) = c.label_end-label.ensures ∙ omega (arith, short-label c.args.line.now is-accepted) in
     let behind : c.label_end-label.result < length c.args.line.now = omega (arith, label_is, label-within c.args.line.now, c.if-label-end.false) in
     of-named c.args.line.now is-accepted c.label_end-label.result label_is behind

@@ -1,12 +1,11 @@
 -- A label without a fault of form is read by what its numbers name. Of one with a fault the second pass tells which. Assumes nothing.
-use mathlib.Core.Path.{◌≡◌, refl, sym, ap, ◌∙◌}
+use mathlib.Core.Path.{◌≡◌, sym, ap, ◌∙◌}
 use mathlib.Core.List.{List}
 use Prim.Native.Nat.{ℕ, ◌+◌}
 use native.Mathlib.Omega.{arith}
 use lib.ListN.{length, length-drop}
 use Rattle.refusal.specs.declared.Refusal.TheVariants.{LabelLength}
 use Rattle.refusal.specs.Paper.{answer}
-use Rattle.refusal.proofs.PaperLaws.{fails, holds}
 use Rattle.label.specs.Label.{numbers_in}
 use Rattle.label.proofs.FormLaws.{long-form}
 use Rattle.label.proofs.NamedLaws.{read-unformed}
@@ -23,7 +22,7 @@ returns-then-bytes-gt16 c =
 
 pub form_fault-requires : goal.form_fault-requires
 form_fault-requires c =
-    record { bytes_len_bound = c.if-bytes-gt16.false; bytes_value = label-faulty c.numbers_in-scanned.ensures (fails refl c.if-not-whole.true-raw) }
+    record { bytes_len_bound = c.if-bytes-gt16.false; bytes_value = label-faulty c.numbers_in-scanned.ensures c.if-not-whole.true }
 
 pub returns-then-not-whole : goal.returns-then-not-whole
 returns-then-not-whole c =
@@ -33,7 +32,7 @@ returns-then-not-whole c =
 pub overflow_add-i : goal.overflow_add-i
 overflow_add-i c =
     let bytes : List ℕ = c.args.bytes.now in
-    let read : Read bytes bytes c.numbers_in-scanned.result.count = label-read c.numbers_in-scanned.ensures (holds refl c.if-not-whole.false-raw) in
+    let read : Read bytes bytes c.numbers_in-scanned.result.count = label-read c.numbers_in-scanned.ensures c.if-not-whole.false in
     let told : named (numbers_in bytes) ≡ c.sheet_named.result = sym (c.sheet_named.ensures ∙ ap named (c.numbers_in-scanned.ensures.held.front ∙ read.numbers)) in
     let h = c.numbers_in-scanned.ensures.held in
     let vs = numbers_in bytes in
@@ -42,7 +41,7 @@ overflow_add-i c =
 pub overflow_add-result : goal.overflow_add-result
 overflow_add-result c =
     let bytes : List ℕ = c.args.bytes.now in
-    let read : Read bytes bytes c.numbers_in-scanned.result.count = label-read c.numbers_in-scanned.ensures (holds refl c.if-not-whole.false-raw) in
+    let read : Read bytes bytes c.numbers_in-scanned.result.count = label-read c.numbers_in-scanned.ensures c.if-not-whole.false in
     let told : named (numbers_in bytes) ≡ c.sheet_named.result = sym (c.sheet_named.ensures ∙ ap named (c.numbers_in-scanned.ensures.held.front ∙ read.numbers)) in
     let vs = numbers_in bytes in
     rw c.first.ensures (record { fits = omega (arith, few-sheet (named-reach vs (told ∙ c.in-Scale.is ∙ ap (λ (r : Reckoned). naming.Scale c.in-Scale.s r) c.in-At.is))) })
@@ -50,14 +49,14 @@ overflow_add-result c =
 pub returns-in-Unknown : goal.returns-in-Unknown
 returns-in-Unknown c =
     let bytes : List ℕ = c.args.bytes.now in
-    let read : Read bytes bytes c.numbers_in-scanned.result.count = label-read c.numbers_in-scanned.ensures (holds refl c.if-not-whole.false-raw) in
+    let read : Read bytes bytes c.numbers_in-scanned.result.count = label-read c.numbers_in-scanned.ensures c.if-not-whole.false in
     let told : named (numbers_in bytes) ≡ c.sheet_named.result = sym (c.sheet_named.ensures ∙ ap named (c.numbers_in-scanned.ensures.held.front ∙ read.numbers)) in
     label-named bytes read.formed (told ∙ c.in-Unknown.is)
 
 pub returns-in-Out : goal.returns-in-Out
 returns-in-Out c =
     let bytes : List ℕ = c.args.bytes.now in
-    let read : Read bytes bytes c.numbers_in-scanned.result.count = label-read c.numbers_in-scanned.ensures (holds refl c.if-not-whole.false-raw) in
+    let read : Read bytes bytes c.numbers_in-scanned.result.count = label-read c.numbers_in-scanned.ensures c.if-not-whole.false in
     let told : named (numbers_in bytes) ≡ c.sheet_named.result = sym (c.sheet_named.ensures ∙ ap named (c.numbers_in-scanned.ensures.held.front ∙ read.numbers)) in
     let l = bytes in
     field_at l c.in-Out.i c.field_start.ensures ∙ label-named l read.formed (told ∙ c.in-Scale.is ∙ ap (λ (r : Reckoned). naming.Scale c.in-Scale.s r) c.in-Out.is)
@@ -65,7 +64,7 @@ returns-in-Out c =
 pub returns-in-At : goal.returns-in-At
 returns-in-At c =
     let bytes : List ℕ = c.args.bytes.now in
-    let read : Read bytes bytes c.numbers_in-scanned.result.count = label-read c.numbers_in-scanned.ensures (holds refl c.if-not-whole.false-raw) in
+    let read : Read bytes bytes c.numbers_in-scanned.result.count = label-read c.numbers_in-scanned.ensures c.if-not-whole.false in
     let told : named (numbers_in bytes) ≡ c.sheet_named.result = sym (c.sheet_named.ensures ∙ ap named (c.numbers_in-scanned.ensures.held.front ∙ read.numbers)) in
     ap (λ (k : ℕ). answer (k + c.in-At.at.index)) c.first.ensures
     ∙ label-named bytes read.formed (told ∙ c.in-Scale.is ∙ ap (λ (r : Reckoned). naming.Scale c.in-Scale.s r) c.in-At.is)

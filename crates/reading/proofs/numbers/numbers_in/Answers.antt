@@ -12,24 +12,24 @@ returns-then-not-is_digit c =
 
 pub returns-then-end-gt16 : goal.returns-then-end-gt16
 returns-then-end-gt16 c =
-    let digit : is_digit (get_or c.args.bytes.now c.loop-start.start 0) ≡ true = (sym c.is_digit.ensures ∙ c.if-not-is_digit.false) in
+    let digit : is_digit (get_or c.args.bytes.now c.loop-start.start 0) ≡ true = sym c.is_digit.ensures ∙ c.if-not-is_digit.false in
     scanned-none c.loop-start.values (too_far c.loop-start.invariant c.loop-start-test.true digit c.field-run.result c.field-run.ensures c.if-end-gt16.true)
 
 pub has_hyphen-requires : goal.has_hyphen-requires
 has_hyphen-requires c =
-    let digit : is_digit (get_or c.args.bytes.now c.loop-start.start 0) ≡ true = (sym c.is_digit.ensures ∙ c.if-not-is_digit.false) in
+    let digit : is_digit (get_or c.args.bytes.now c.loop-start.start 0) ≡ true = sym c.is_digit.ensures ∙ c.if-not-is_digit.false in
     let read : Taken c.loop-start.invariant c.loop-start-test.true digit c.field-run.result = taken c.loop-start.invariant c.loop-start-test.true digit c.field-run.result c.field-run.ensures c.if-end-gt16.false in
     end-within c.loop-start.invariant c.loop-start-test.true digit read c.if-end-gt16.false
 
 pub returns-then-not-has_hyphen : goal.returns-then-not-has_hyphen
 returns-then-not-has_hyphen c =
-    let digit : is_digit (get_or c.args.bytes.now c.loop-start.start 0) ≡ true = (sym c.is_digit.ensures ∙ c.if-not-is_digit.false) in
+    let digit : is_digit (get_or c.args.bytes.now c.loop-start.start 0) ≡ true = sym c.is_digit.ensures ∙ c.if-not-is_digit.false in
     let read : Taken c.loop-start.invariant c.loop-start-test.true digit c.field-run.result = taken c.loop-start.invariant c.loop-start-test.true digit c.field-run.result c.field-run.ensures c.if-end-gt16.false in
     ends c.loop-start.invariant c.loop-start-test.true digit read c.if-end-gt16.false (sym c.has_hyphen.ensures ∙ c.if-not-has_hyphen.true)
 
 pub loop-start-preserved : goal.loop-start-preserved
 loop-start-preserved c =
-    let digit : is_digit (get_or c.args.bytes.now c.loop-start.start 0) ≡ true = (sym c.is_digit.ensures ∙ c.if-not-is_digit.false) in
+    let digit : is_digit (get_or c.args.bytes.now c.loop-start.start 0) ≡ true = sym c.is_digit.ensures ∙ c.if-not-is_digit.false in
     let read : Taken c.loop-start.invariant c.loop-start-test.true digit c.field-run.result = taken c.loop-start.invariant c.loop-start-test.true digit c.field-run.result c.field-run.ensures c.if-end-gt16.false in
     hyphen c.loop-start.invariant c.loop-start-test.true digit read c.if-end-gt16.false (sym c.has_hyphen.ensures ∙ c.if-not-has_hyphen.false)
 

@@ -18,7 +18,7 @@ returns-then-not-goes_on c =
 
 pub returns-then-s-got : goal.returns-then-s-got
 returns-then-s-got c =
-    let on : goes_on (length c.args.buf.now) (length c.args.out.now) c.args.s.number ≡ true = (sym c.goes_on.ensures ∙ c.if-not-goes_on.false) in
+    let on : goes_on (length c.args.buf.now) (length c.args.out.now) c.args.s.number ≡ true = sym c.goes_on.ensures ∙ c.if-not-goes_on.false in
     let held : take (c.reach-end.result - c.least-from.result) (drop c.least-from.result c.args.buf.now) ≡ held_with c.args.s c.args.got c.args.buf.now = let s = c.args in
     part-is s.buf.now c.least-from.result c.reach-end.result ∙ held-is s.buf.now s.s.from _ c.least-from.result c.reach-end.result c.reach-end.ensures c.least-from.ensures in
     let s = c.args in
@@ -27,7 +27,7 @@ returns-then-s-got c =
 
 pub overflow_add-next : goal.overflow_add-next
 overflow_add-next c =
-    let on : goes_on (length c.args.buf.now) (length c.args.out.now) c.args.s.number ≡ true = (sym c.goes_on.ensures ∙ c.if-not-goes_on.false) in
+    let on : goes_on (length c.args.buf.now) (length c.args.out.now) c.args.s.number ≡ true = sym c.goes_on.ensures ∙ c.if-not-goes_on.false in
     let enough : Enough (length c.args.buf.now) (length c.args.out.now) c.args.s.number = let s = c.args in enough-is (length s.buf.now) (length s.out.now) s.s.number on in
     let s = c.args in
     let lent = take (c.reach-end.result - c.least-from.result) (drop c.least-from.result s.buf.now) in
@@ -35,7 +35,7 @@ overflow_add-next c =
 
 pub returns-then-out-fed : goal.returns-then-out-fed
 returns-then-out-fed c =
-    let on : goes_on (length c.args.buf.now) (length c.args.out.now) c.args.s.number ≡ true = (sym c.goes_on.ensures ∙ c.if-not-goes_on.false) in
+    let on : goes_on (length c.args.buf.now) (length c.args.out.now) c.args.s.number ≡ true = sym c.goes_on.ensures ∙ c.if-not-goes_on.false in
     let held : take (c.reach-end.result - c.least-from.result) (drop c.least-from.result c.args.buf.now) ≡ held_with c.args.s c.args.got c.args.buf.now = let s = c.args in
     part-is s.buf.now c.least-from.result c.reach-end.result ∙ held-is s.buf.now s.s.from _ c.least-from.result c.reach-end.result c.reach-end.ensures c.least-from.ensures in
     let s = c.args in
@@ -44,7 +44,7 @@ returns-then-out-fed c =
 
 pub returns : goal.returns
 returns c =
-    let on : goes_on (length c.args.buf.now) (length c.args.out.now) c.args.s.number ≡ true = (sym c.goes_on.ensures ∙ c.if-not-goes_on.false) in
+    let on : goes_on (length c.args.buf.now) (length c.args.out.now) c.args.s.number ≡ true = sym c.goes_on.ensures ∙ c.if-not-goes_on.false in
     let held : take (c.reach-end.result - c.least-from.result) (drop c.least-from.result c.args.buf.now) ≡ held_with c.args.s c.args.got c.args.buf.now = let s = c.args in
     part-is s.buf.now c.least-from.result c.reach-end.result ∙ held-is s.buf.now s.s.from _ c.least-from.result c.reach-end.result c.reach-end.ensures c.least-from.ensures in
     let s = c.args in
