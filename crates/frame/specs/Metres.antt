@@ -20,20 +20,20 @@ half sum = shr_z sum 2
 
 -- "a sheet's frame as west, east, south and north in metres, with the middle as half the sum of the edges"
 abbrev pub frame_on : Edges → Frame
-frame_on ground = record {
-  west = metres ground.west;
-  east = metres ground.east;
-  south = metres ground.south;
-  north = metres ground.north;
-  middle_e = metres (half (ground.west +ℤ ground.east));
-  middle_n = metres (half (ground.south +ℤ ground.north));
+frame_on edges = record {
+  west = metres edges.west;
+  east = metres edges.east;
+  south = metres edges.south;
+  north = metres edges.north;
+  middle_e = metres (half (edges.west +ℤ edges.east));
+  middle_n = metres (half (edges.south +ℤ edges.north));
 }
 
 -- "The answer is either the frame with its middle or a refusal number"
 unfoldable pub frame_of : ℕ → Paper Frame
 frame_of sheet = do
-  ground ← corners_of sheet
-  answer (frame_on ground)
+  edges ← corners_of sheet
+  answer (frame_on edges)
 
 -- "It also sends points as floats in metres": "18 .. stands after 2 and before 1"
 unfoldable pub sheet_at_metres : ℕ → Float → Float → Paper ℕ

@@ -3,6 +3,8 @@ use Rattle.shelf.specs.Kind.{kind_of}
 use Rattle.shelf.proofs.WritingLaws.{measured, writable, writes-none, writes_short, writes-all}
 use Rattle.list_writing.proofs.write_in.Goals as goal
 
+-- where there is no room, the refusal tells how long the list is,
+-- and nothing is written
 pub returns-then-room-long : goal.returns-then-room-long
 returns-then-room-long c =
     let a = c.args in
