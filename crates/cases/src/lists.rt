@@ -1,244 +1,221 @@
 // What is asked of shelf lists, and of bytes that are changed. A question that begins with a capital is the same question of holdings.
-use crate::part::{bytes_before, sheets_before};
+use crate::part::before;
 use crate::read::{size, small};
-use crate::write::To;
+use crate::write::SUM;
 use crate::{labels, read, room, write};
 use list_reading::{read_holdings, read_list};
 use list_writing::{holdings_length, list_length, write_holdings, write_list};
-use refusal::Laid;
+use refusal::Refusal;
+use shelf::kind::{Holdings, Sheets};
 use shelf::{Read, number};
-use std::num::wrapping_add_u32;
+use std::io::{self, Write};
 
 // How many sheets a question may have: more than any list has.
-pub(crate) const MOST: usize = 4100;
+pub(crate) const MOST: usize = 4_100;
 
 // Room for few sheets, which is marked in less time than room for more than any list has.
 const FEW: usize = 64;
 
-// Each of the 256 in each place of a question's bytes.
-const CHANGES: usize = 131072;
+// The questions of each kind of list.
+pub(crate) trait Listed {
+    fn length(numbers: &[u32]) -> Result<usize, Refusal>;
 
-pub(crate) fn groups(to: To, s: &[u8]) {
-    write::number(to, number::groups(small(s, 1)) as u64);
+    fn write(numbers: &[u32], places: &mut [u8]) -> Result<usize, Refusal>;
+
+    fn read(bytes: &[u8], places: &mut [u32]) -> Read;
+
+    // What the bytes are read as in front of it.
+    fn first(to: &mut impl Write, bytes: &[u8], size: usize) -> io::Result<()>;
 }
 
-// Whether a question is of holdings.
-fn new(s: &[u8]) -> bool {
-    if s.len() > 0 { s[0] < b'a' } else { false }
+impl Listed for Sheets {
+    fn length(sheets: &[u32]) -> Result<usize, Refusal> {
+        list_length(sheets)
+    }
+
+    fn write(sheets: &[u32], places: &mut [u8]) -> Result<usize, Refusal> {
+        write_list(sheets, places)
+    }
+
+    fn read(bytes: &[u8], places: &mut [u32]) -> Read {
+        read_list(bytes, places)
+    }
+
+    fn first(to: &mut impl Write, bytes: &[u8], _size: usize) -> io::Result<()> {
+        labels::reading(to, bytes)
+    }
+}
+
+impl Listed for Holdings {
+    fn length(holdings: &[u32]) -> Result<usize, Refusal> {
+        holdings_length(holdings)
+    }
+
+    fn write(holdings: &[u32], places: &mut [u8]) -> Result<usize, Refusal> {
+        write_holdings(holdings, places)
+    }
+
+    fn read(bytes: &[u8], places: &mut [u32]) -> Read {
+        read_holdings(bytes, places)
+    }
+
+    fn first(to: &mut impl Write, bytes: &[u8], size: usize) -> io::Result<()> {
+        reading::<Sheets>(to, bytes, size)
+    }
+}
+
+pub(crate) fn groups(to: &mut impl Write, s: &[u8]) -> io::Result<()> {
+    write::number(to, number::groups(small(s, 1)))
 }
 
 // The sheets of the question, in room for so many bytes.
-pub(crate) fn pack(to: To, s: &[u8]) {
-    let mut sheets = [0u32; MOST];
+pub(crate) fn pack<L: Listed>(to: &mut impl Write, s: &[u8]) -> io::Result<()> {
+    let mut sheets = [0; MOST];
     let n = size(s, 2);
     given(s, 3, n, &mut sheets);
-    writing(to, new(s), front(n, &sheets), size(s, 1));
+    writing::<L>(to, front(n, &sheets), size(s, 1))
 }
 
 // Sheets by a rule, one of them another, in room for so many bytes.
-pub(crate) fn rule(to: To, s: &[u8]) {
-    let mut sheets = [0u32; MOST];
+pub(crate) fn rule<L: Listed>(to: &mut impl Write, s: &[u8]) -> io::Result<()> {
+    let mut sheets = [0; MOST];
     ruled(small(s, 2), small(s, 3), &mut sheets);
     put(size(s, 5), small(s, 6), &mut sheets);
-    writing(to, new(s), front(size(s, 4), &sheets), size(s, 1));
+    writing::<L>(to, front(size(s, 4), &sheets), size(s, 1))
 }
 
 // So many sheets of a question, behind so many spaces.
 pub(crate) fn given(s: &[u8], spaces: u8, n: usize, sheets: &mut [u32; MOST]) {
-    let mut i = 0;
-    while i < MOST {
-        if i == n {
-            return;
-        }
-        sheets[i] = small(s, i + spaces as usize);
-        i += 1;
+    for (i, sheet) in sheets.iter_mut().enumerate().take(n) {
+        *sheet = small(s, i + usize::from(spaces));
     }
 }
 
 // A first sheet, and each later one so far from the one before; beyond 32 bits it starts again from 0.
 pub(crate) fn ruled(first: u32, step: u32, sheets: &mut [u32; MOST]) {
     let mut n = first;
-    let mut i = 0;
-    while i < MOST {
-        sheets[i] = n;
-        n = wrapping_add_u32(n, step);
-        i += 1;
+    for sheet in sheets.iter_mut() {
+        *sheet = n;
+        n = n.wrapping_add(step);
     }
 }
 
 // Puts a number in a place, counted from 1. There is no place 0.
 pub(crate) fn put(place: usize, n: u32, sheets: &mut [u32; MOST]) {
-    if place > 0 {
-        if place <= MOST {
-            sheets[place - 1] = n;
-        }
+    if 0 < place && place <= MOST {
+        sheets[place - 1] = n;
     }
 }
 
 // The first so many.
 pub(crate) fn front(n: usize, sheets: &[u32; MOST]) -> &[u32] {
-    sheets_before(sheets, n)
+    before(sheets, n)
 }
 
 // The length, and the list in room for so many bytes.
-fn writing(to: To, new: bool, sheets: &[u32], size: usize) -> To {
-    let t = write::comma(write::laid(to, length(new, sheets)));
-    let mut places = [room::MARK; room::BYTES];
-    written(t, new, sheets, room::bytes(&mut places, size))
-}
-
-fn length(new: bool, sheets: &[u32]) -> Laid {
-    if new {
-        return holdings_length(sheets);
-    }
-    list_length(sheets)
-}
-
-fn written(to: To, new: bool, sheets: &[u32], places: &mut [u8]) -> To {
-    let laid = list(new, sheets, places);
+fn writing<L: Listed>(to: &mut impl Write, numbers: &[u32], size: usize) -> io::Result<()> {
+    write::answer(to, L::length(numbers))?;
+    to.write_all(b",")?;
+    let mut room = [room::MARK; room::BYTES];
+    let places = room::places(&mut room, size);
+    let laid = L::write(numbers, places);
+    write::answer(to, laid)?;
     let n = room::count(laid);
-    let t = room::show_bytes(write::laid(to, laid), n, places);
-    back(t, new, n, places, sheets.len())
-}
-
-fn list(new: bool, sheets: &[u32], places: &mut [u8]) -> Laid {
-    if new {
-        return write_holdings(sheets, places);
-    }
-    write_list(sheets, places)
+    room::show_bytes(to, n, places)?;
+    back::<L>(to, n, places, numbers.len())
 }
 
 // What is read again where a list was written, which has at least a byte: from the list, from the list without its last
 // byte and with the byte that follows in the room, and from the list in room for a sheet less.
-fn back(to: To, new: bool, n: usize, places: &[u8], count: usize) -> To {
+fn back<L: Listed>(to: &mut impl Write, n: usize, places: &[u8], count: usize) -> io::Result<()> {
     if n == 0 {
-        return to;
+        return Ok(());
     }
-    let mut t = reading(to, new, bytes_before(places, n), count);
-    t = reading(t, new, bytes_before(places, n - 1), count);
+    reading::<L>(to, before(places, n), count)?;
+    reading::<L>(to, before(places, n - 1), count)?;
     if n < places.len() {
-        t = reading(t, new, bytes_before(places, n + 1), count);
+        reading::<L>(to, &places[..=n], count)?;
     }
     if count > 0 {
-        t = reading(t, new, bytes_before(places, n), count - 1);
+        reading::<L>(to, before(places, n), count - 1)?;
     }
-    t
+    Ok(())
 }
 
 // Reads a list in room for so many sheets.
-fn reading(to: To, new: bool, bytes: &[u8], size: usize) -> To {
-    let t = write::named(to, b" from", bytes.len() as u64);
-    let u = write::named(t, b" in", size as u64);
+fn reading<L: Listed>(to: &mut impl Write, bytes: &[u8], size: usize) -> io::Result<()> {
+    write!(to, " from {} in {size}", bytes.len())?;
     if size > FEW {
-        return reading_many(u, new, bytes, size);
+        return reading_many::<L>(to, bytes, size);
     }
     let mut places = [room::NO_SHEET; FEW];
-    read_in(u, new, bytes, room::sheets(&mut places, size))
+    read_in::<L>(to, bytes, room::places(&mut places, size))
 }
 
-fn reading_many(to: To, new: bool, bytes: &[u8], size: usize) -> To {
+fn reading_many<L: Listed>(to: &mut impl Write, bytes: &[u8], size: usize) -> io::Result<()> {
     let mut places = [room::NO_SHEET; room::SHEETS];
-    read_in(to, new, bytes, room::sheets(&mut places, size))
+    read_in::<L>(to, bytes, room::places(&mut places, size))
 }
 
-fn read_in(to: To, new: bool, bytes: &[u8], places: &mut [u32]) -> To {
-    let r = read_by(new, bytes, places);
-    let ended = r.ended;
-    let n = r.placed;
-    let t = write::named(write::ended(to, ended), b" placed", n as u64);
-    room::show_sheets(t, n, places)
-}
-
-fn read_by(new: bool, bytes: &[u8], places: &mut [u32]) -> Read {
-    if new {
-        return read_holdings(bytes, places);
-    }
-    read_list(bytes, places)
+fn read_in<L: Listed>(to: &mut impl Write, bytes: &[u8], places: &mut [u32]) -> io::Result<()> {
+    let Read { ended, placed } = L::read(bytes, places);
+    match ended {
+        Ok(()) => to.write_all(b" whole"),
+        Err(why) => write::refused(to, why),
+    }?;
+    write!(to, " placed {placed}")?;
+    room::show(to, placed, places)
 }
 
 // What is read as a label, or of holdings by the old reader, and as a list in room for so many sheets.
-fn both(to: To, new: bool, bytes: &[u8], size: usize) -> To {
-    reading(write::comma(first(to, new, bytes, size)), new, bytes, size)
+fn both<L: Listed>(to: &mut impl Write, bytes: &[u8], size: usize) -> io::Result<()> {
+    L::first(to, bytes, size)?;
+    to.write_all(b",")?;
+    reading::<L>(to, bytes, size)
 }
 
-fn first(to: To, new: bool, bytes: &[u8], size: usize) -> To {
-    if new {
-        return reading(to, false, bytes, size);
-    }
-    labels::reading(to, bytes)
-}
-
-pub(crate) fn bytes(to: To, s: &[u8]) {
-    let mut bytes = [0u8; read::BYTES];
-    let n = read::bytes(s, &mut bytes);
-    both(to, new(s), read::front(n, &bytes), size(s, 1));
+pub(crate) fn bytes<L: Listed>(to: &mut impl Write, s: &[u8]) -> io::Result<()> {
+    let mut places = [0; read::BYTES];
+    both::<L>(to, read::bytes(s, &mut places), size(s, 1))
 }
 
 // Every beginning of a list, the shortest first.
-pub(crate) fn heads(to: To, s: &[u8]) {
-    let mut bytes = [0u8; read::BYTES];
-    let n = read::bytes(s, &mut bytes);
-    beginnings(to, new(s), read::front(n, &bytes), size(s, 1));
-}
-
-fn beginnings(to: To, new: bool, bytes: &[u8], size: usize) {
-    let mut n = 0;
-    while n < bytes.len() {
-        reading(to, new, bytes_before(bytes, n), size);
-        n += 1;
+pub(crate) fn heads<L: Listed>(to: &mut impl Write, s: &[u8]) -> io::Result<()> {
+    let mut places = [0; read::BYTES];
+    let bytes = read::bytes(s, &mut places);
+    for n in 0..=bytes.len() {
+        reading::<L>(to, &bytes[..n], size(s, 1))?;
     }
-    reading(to, new, bytes, size);
+    Ok(())
 }
 
 // A sum over what is read when each byte in turn is changed to each of the 256.
-pub(crate) fn vary(to: To, s: &[u8]) {
-    let mut bytes = [0u8; read::BYTES];
-    let n = read::bytes(s, &mut bytes);
-    write::number(to, write::sum_of(changes(new(s), n, bytes, size(s, 1))));
+pub(crate) fn vary<L: Listed>(to: &mut impl Write, s: &[u8]) -> io::Result<()> {
+    let mut places = [0; read::BYTES];
+    let sum = changes::<L>(read::bytes(s, &mut places), size(s, 1))?;
+    write::number(to, sum)
 }
 
-fn changes(new: bool, n: usize, bytes: [u8; read::BYTES], size: usize) -> To {
-    let mut sum = write::SUM;
-    let mut i = 0;
-    while i < CHANGES {
-        if i / 256 == n {
-            return sum;
+fn changes<L: Listed>(bytes: &mut [u8], size: usize) -> io::Result<u64> {
+    let mut sum = SUM;
+    for place in 0..bytes.len() {
+        let byte = bytes[place];
+        for other in 0..=u8::MAX {
+            bytes[place] = other;
+            both::<L>(&mut sum, bytes, size)?;
         }
-        sum = with_change(sum, new, i / 256, (i % 256) as u8, n, bytes, size);
-        i += 1;
-    }
-    sum
-}
-
-// With another byte in a place.
-fn with_change(
-    sum: To,
-    new: bool,
-    place: usize,
-    byte: u8,
-    n: usize,
-    mut bytes: [u8; read::BYTES],
-    size: usize,
-) -> To {
-    if place < read::BYTES {
         bytes[place] = byte;
     }
-    both(sum, new, read::front(n, &bytes), size)
+    Ok(sum.value)
 }
 
 // A sum over the sets of fewer than so many sheets by a rule.
-pub(crate) fn many(to: To, s: &[u8]) {
-    let mut sheets = [0u32; MOST];
+pub(crate) fn many(to: &mut impl Write, s: &[u8]) -> io::Result<()> {
+    let mut sheets = [0; MOST];
     ruled(small(s, 1), small(s, 2), &mut sheets);
-    write::number(to, write::sum_of(sets(size(s, 3), &sheets)));
-}
-
-fn sets(many: usize, sheets: &[u32; MOST]) -> To {
-    let mut sum = write::SUM;
-    let mut n = 0;
-    while n < many {
-        sum = writing(sum, false, front(n, sheets), 200);
-        n += 1;
+    let mut sum = SUM;
+    for n in 0..size(s, 3) {
+        writing::<Sheets>(&mut sum, front(n, &sheets), 200)?;
     }
-    sum
+    write::number(to, sum.value)
 }

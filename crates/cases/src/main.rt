@@ -21,19 +21,15 @@ mod write;
 ghost use Rattle.std.specs.Prelude.{◌≤◌, length};
 
 use std::io::Read;
-use write::To;
 
 // Room for the questions: 256 KiB.
-const TEXT: usize = 262144;
+const TEXT: usize = 262_144;
 
 fn main(rt: HostRuntime) {
     let mut text = [0u8; TEXT];
-    asked(To::Out(rt.stdout()), &mut rt.stdin(), &mut text);
-}
-
-fn asked(to: To, input: &mut impl Read, text: &mut [u8; TEXT]) {
-    let n = taken(input, text);
-    ask::lines(to, part::bytes_before(text, n));
+    let n = taken(&mut rt.stdin(), &mut text);
+    // where standard output takes no more, there is nobody to tell
+    let _ = ask::lines(&mut rt.stdout(), part::before(&text, n));
 }
 
 // Reads the input to its end, or as much of it as there is room for or as can be read, and gives how many bytes that is.
@@ -43,13 +39,8 @@ fn taken(input: &mut impl Read, text: &mut [u8]) -> usize
     let mut n = 0;
     for _ in 0..u64::MAX {
         match input.read(&mut text[n..]) {
-            Ok(k) => {
-                if k == 0 {
-                    break;
-                }
-                n += k;
-            }
-            Err(_) => break,
+            Ok(0) | Err(_) => break,
+            Ok(k) => n += k,
         }
     }
     n

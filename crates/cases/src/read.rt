@@ -1,130 +1,92 @@
 // Reading the numbers and the bytes of a question.
-use crate::part::bytes_before;
-use std::num::wrapping_sub_u64;
+ghost use Rattle.std.specs.Prelude.{◌<◌};
+
+use crate::{part, room};
 
 // How many bytes a question may have.
 pub(crate) const BYTES: usize = 512;
 
 // A number as it stands in a question: whether it has a minus, and its digits.
-#[derive(Clone, Copy)]
+#[derive(Clone, Copy, Default)]
 struct Digits {
     minus: bool,
     size: u64,
 }
 
+impl Digits {
+    fn with_byte(self, b: u8) -> Digits {
+        if b < b'0' {
+            return Digits {
+                minus: b == b'-',
+                size: 0,
+            };
+        }
+        Digits {
+            minus: self.minus,
+            size: self.size % 1_000_000_000_000_000_000 * 10 + u64::from(b - b'0'),
+        }
+    }
+}
+
 // The number after so many spaces, and 0 where there is none.
 fn number(s: &[u8], spaces: usize) -> Digits {
-    let mut value = Digits {
-        minus: false,
-        size: 0,
-    };
-    let mut passed: usize = 0;
-    let mut i = 0;
-    while i < s.len() {
-        if s[i] == b' ' {
-            passed += 1;
-        } else if passed == spaces {
-            value = with_byte(value, s[i]);
-        }
-        i += 1;
+    let mut value = Digits::default();
+    for &b in s.split(|&b| b == b' ').nth(spaces).unwrap_or(&[]) {
+        value = value.with_byte(b);
     }
     value
 }
 
-fn with_byte(value: Digits, b: u8) -> Digits {
-    if b < b'0' {
-        return Digits {
-            minus: b == b'-',
-            size: 0,
-        };
-    }
-    Digits {
-        minus: value.minus,
-        size: value.size % 1000000000000000000 * 10 + (b - b'0') as u64,
-    }
-}
-
 // The same as a sheet, a scale, a row, a column, a count or a size; 0 for a number that is too large.
 pub(crate) fn small(s: &[u8], spaces: usize) -> u32 {
-    let n = number(s, spaces);
-    let size = n.size;
-    if size > 4294967295 { 0 } else { size as u32 }
+    u32::try_from(number(s, spaces).size).unwrap_or(0)
 }
 
 pub(crate) fn size(s: &[u8], spaces: usize) -> usize {
     small(s, spaces) as usize
 }
 
+// With its sign; 0 for a number that is too large, or too small.
 pub(crate) fn signed(s: &[u8], spaces: usize) -> i64 {
     let n = number(s, spaces);
     if n.minus {
-        joined(true, wrapping_sub_u64(n.size, 1))
+        0i64.checked_sub_unsigned(n.size).unwrap_or(0)
     } else {
-        joined(false, n.size)
+        i64::try_from(n.size).unwrap_or(0)
     }
-}
-
-// The number n, or with a minus -(n + 1); 0 where there is no such number.
-fn joined(minus: bool, n: u64) -> i64 {
-    if n > 9223372036854775807 {
-        return 0;
-    }
-    let x = n as i64;
-    if minus {
-        return -1 - x;
-    }
-    x
 }
 
 // The same as a float, told by its bits: those below the sign as a number, and a minus for the sign.
 pub(crate) fn float(s: &[u8], spaces: usize) -> f64 {
     let n = number(s, spaces);
     let size = of_bits(n.size);
-    if n.minus {
-        return -size;
-    }
-    size
+    if n.minus { -size } else { size }
 }
 
 // No number where the bits are of none.
 fn of_bits(bits: u64) -> f64 {
     if bits > 0x7ff0_0000_0000_0000 {
-        return 0.0 / 0.0;
+        return f64::NAN;
     }
     f64::from_bits(bits)
 }
 
-// The bytes behind the last space, two hexadecimal digits each, and how many they are.
-pub(crate) fn bytes(s: &[u8], places: &mut [u8; BYTES]) -> usize {
-    let mut digits: usize = 0;
-    let mut i = 0;
-    while i < s.len() {
-        if s[i] == b' ' {
-            digits = 0;
-        } else {
-            hexadecimal(digits / 2, s[i], places);
-            digits += 1;
-        }
-        i += 1;
+// The bytes behind the last space, two hexadecimal digits each, in room for so many as a question may have.
+pub(crate) fn bytes<'a>(s: &[u8], places: &'a mut [u8; BYTES]) -> &'a mut [u8] {
+    let space = s.iter().rposition(|&b| b == b' ');
+    let digits = part::behind(s, space.map_or(0, |i| i + 1));
+    for (place, pair) in places.iter_mut().zip(digits.chunks_exact(2)) {
+        *place = hexadecimal(pair[0]) * 16 + hexadecimal(pair[1]);
     }
-    digits / 2
+    room::places(places, digits.len() / 2)
 }
 
-// The first so many of them.
-pub(crate) fn front(n: usize, places: &[u8; BYTES]) -> &[u8] {
-    bytes_before(places, n)
-}
-
-fn hexadecimal(place: usize, b: u8, places: &mut [u8; BYTES]) {
-    if place < BYTES {
-        places[place] = with_hex(places[place], b);
-    }
-}
-
-fn with_hex(value: u8, b: u8) -> u8 {
+fn hexadecimal(b: u8) -> u8
+    ensures { result < 16 }
+{
     if b < b'a' {
-        value % 16 * 16 + b % 16
+        b % 16
     } else {
-        value % 16 * 16 + (b - b'a') % 6 + 10
+        (b - b'a') % 6 + 10
     }
 }

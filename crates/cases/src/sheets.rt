@@ -1,111 +1,94 @@
 // What is asked of the division.
 use crate::read::{signed, size, small};
-use crate::write::To;
 use crate::{room, write};
 use division::cover::cover as cover_in;
 use division::table::Scale;
-use division::{Corners, Edges, Located, Place, Spot, sheet};
-use relations::{Apart, kin};
+use division::{Edges, Place, sheet};
+use relations::kin;
+use std::io::{self, Write};
 
 // Width and height in metres, first and last sheet; and the last scale and the last sheet of all.
-pub(crate) fn table(to: To, s: &[u8]) {
+pub(crate) fn table(to: &mut impl Write, s: &[u8]) -> io::Result<()> {
     let scale = Scale(small(s, 1));
-    let t = write::small(write::small(to, scale.width()), scale.height());
-    let u = write::small(write::small(t, scale.first()), scale.last());
-    write::small(write::small(u, Scale::LAST), Scale::LAST_SHEET);
+    write!(to, " {} {}", scale.width(), scale.height())?;
+    write!(to, " {} {}", scale.first(), scale.last())?;
+    write!(to, " {} {}", Scale::LAST, Scale::LAST_SHEET)
 }
 
-pub(crate) fn number(to: To, s: &[u8]) {
+// And the sheets around it, a hyphen for none: rows from the north.
+pub(crate) fn number(to: &mut impl Write, s: &[u8]) -> io::Result<()> {
     let n = small(s, 1);
-    write::block(told(to, n), kin::neighbours(n));
+    told(to, n)?;
+    for row in kin::neighbours(n) {
+        to.write_all(b",")?;
+        for neighbour in row {
+            match neighbour {
+                Some(n) => write::number(to, n),
+                None => to.write_all(b" -"),
+            }?;
+        }
+    }
+    Ok(())
 }
 
 // Of a sheet: place, edges and parent, and what is found at the place and at the upper left corner.
-pub(crate) fn told(to: To, n: u32) -> To {
-    let t = located(to, sheet::locate(n));
-    let scale = Scale::of(n);
-    let u = corners(write::comma(t), scale.0, sheet::corners_of(n));
-    write::found(write::comma(u), kin::parent(n))
+pub(crate) fn told(to: &mut impl Write, n: u32) -> io::Result<()> {
+    match sheet::locate(n) {
+        Ok(at) => {
+            write!(to, " {} {} {}", at.scale, at.place.row, at.place.column)?;
+            write::answer(to, sheet::sheet_on(at.scale, at.place))
+        }
+        Err(why) => write::refused(to, why),
+    }?;
+    to.write_all(b",")?;
+    match sheet::corners_of(n) {
+        Ok(e) => {
+            write!(to, " {} {} {} {}", e.west, e.east, e.south, e.north)?;
+            write::answer(to, sheet::sheet_at(Scale::of(n).0, e.west, e.north))
+        }
+        Err(why) => write::refused(to, why),
+    }?;
+    to.write_all(b",")?;
+    write::answer(to, kin::parent(n))
 }
 
-fn located(to: To, l: Located) -> To {
-    match l {
-        Located::At(at) => spot(to, at),
-        Located::Refused(r) => write::refused(to, r),
-    }
+pub(crate) fn at(to: &mut impl Write, s: &[u8]) -> io::Result<()> {
+    write::answer(to, sheet::sheet_at(small(s, 1), signed(s, 2), signed(s, 3)))
 }
 
-// Scale, row and column, and the sheet there.
-fn spot(to: To, at: Spot) -> To {
-    let p = at.place;
-    let t = write::small(write::small(write::small(to, at.scale), p.row), p.column);
-    write::found(t, sheet::sheet_on(at.scale, p))
+pub(crate) fn on(to: &mut impl Write, s: &[u8]) -> io::Result<()> {
+    let row = small(s, 2);
+    let column = small(s, 3);
+    write::answer(to, sheet::sheet_on(small(s, 1), Place { row, column }))
 }
 
-fn corners(to: To, scale: u32, c: Corners) -> To {
-    match c {
-        Corners::Framed(e) => edges(to, scale, e),
-        Corners::Refused(r) => write::refused(to, r),
-    }
+pub(crate) fn down(to: &mut impl Write, s: &[u8]) -> io::Result<()> {
+    write::answer(to, kin::child(small(s, 1), small(s, 2), small(s, 3)))
 }
 
-// West, east, south and north, and the sheet at the upper left corner.
-fn edges(to: To, scale: u32, e: Edges) -> To {
-    let t = write::signed(write::signed(to, e.west), e.east);
-    let u = write::signed(write::signed(t, e.south), e.north);
-    write::found(u, sheet::sheet_at(scale, e.west, e.north))
-}
-
-pub(crate) fn at(to: To, s: &[u8]) {
-    write::found(to, sheet::sheet_at(small(s, 1), signed(s, 2), signed(s, 3)));
-}
-
-pub(crate) fn on(to: To, s: &[u8]) {
-    let place = Place {
-        row: small(s, 2),
-        column: small(s, 3),
-    };
-    write::found(to, sheet::sheet_on(small(s, 1), place));
-}
-
-pub(crate) fn down(to: To, s: &[u8]) {
-    write::found(to, kin::child(small(s, 1), small(s, 2), small(s, 3)));
-}
-
-pub(crate) fn step(to: To, s: &[u8]) {
-    write::found(to, kin::step(small(s, 1), signed(s, 2), signed(s, 3)));
+pub(crate) fn step(to: &mut impl Write, s: &[u8]) -> io::Result<()> {
+    write::answer(to, kin::step(small(s, 1), signed(s, 2), signed(s, 3)))
 }
 
 // East and south.
-pub(crate) fn from(to: To, s: &[u8]) {
+pub(crate) fn from(to: &mut impl Write, s: &[u8]) -> io::Result<()> {
     match kin::offset(small(s, 1), small(s, 2)) {
-        Apart::By(o) => {
-            write::signed(write::signed(to, o.east), o.south);
-        }
-        Apart::Refused(r) => {
-            write::refused(to, r);
-        }
+        Ok(apart) => write!(to, " {} {}", apart.east, apart.south),
+        Err(why) => write::refused(to, why),
     }
 }
 
 // The cover in room for so many sheets.
-pub(crate) fn cover(to: To, s: &[u8]) {
+pub(crate) fn cover(to: &mut impl Write, s: &[u8]) -> io::Result<()> {
     let window = Edges {
         west: signed(s, 3),
         east: signed(s, 4),
         south: signed(s, 5),
         north: signed(s, 6),
     };
-    let mut places = [room::NO_SHEET; room::SHEETS];
-    covered(
-        to,
-        small(s, 2),
-        window,
-        room::sheets(&mut places, size(s, 1)),
-    );
-}
-
-fn covered(to: To, scale: u32, window: Edges, places: &mut [u32]) {
-    let laid = cover_in(scale, window, places);
-    room::show_sheets(write::laid(to, laid), room::count(laid), places);
+    let mut room = [room::NO_SHEET; room::SHEETS];
+    let places = room::places(&mut room, size(s, 1));
+    let laid = cover_in(small(s, 2), window, places);
+    write::answer(to, laid)?;
+    room::show(to, room::count(laid), places)
 }

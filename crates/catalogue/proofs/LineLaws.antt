@@ -1,15 +1,18 @@
 -- What the line reader's loops and ways out use: bytes that all pass a test, and a line with and without a name. Assumes nothing.
-use mathlib.Core.Path.{◌≡◌, refl, sym, ◌∙◌}
-use mathlib.Core.Bool.{Bool, true, false}
-use mathlib.Core.List.{List}
+use mathlib.Core.Path.{◌≡◌, refl, sym, ap, ◌∙◌}
+use mathlib.Core.Bool.{Bool, true, false, ◌&&◌}
+use Rattle.std.specs.List.{list_all}
+use mathlib.Core.List.{List, [], ◌∷◌}
 use mathlib.Core.Logic.{⊎_elim}
 use Prim.Native.Nat.{ℕ, ◌+◌, ◌-◌, ◌≤◌, ◌<◌, min}
-use native.Mathlib.Numerals.{add-one}
 use native.Mathlib.Omega.{arith}
 use borrow.Author.Tests.{lt-ltb, le-ltb}
-use lib.ListN.{length, get_or, take, drop, length-take, length-drop, drop_of_length-le}
-use lib.Seq.{take_all, drop-cons}
+use lib.ListN.{length, take, drop, length-take, length-drop}
+use lib.Seq.{take_all}
+use Rattle.refusal.specs.declared.Refusal.{Refusal}
 use Rattle.refusal.specs.declared.Refusal.TheVariants.{LabelLength}
+use Rattle.refusal.specs.Numbers.{on_paper}
+use Rattle.refusal.proofs.PaperLaws.{asked-on}
 use Rattle.refusal.specs.Paper.{Paper, answer, refused, is_answer, ◌>>=◌}
 use Rattle.division.proofs.TestLaws.{le-or-less}
 use Rattle.label.specs.Text.{every}
@@ -17,8 +20,7 @@ use Rattle.label.specs.Label.{read_label}
 use Rattle.label.proofs.PieceLaws.{take-piece, piece-within, piece-take}
 use Rattle.label.proofs.FormLaws.{long-form}
 use Rattle.label.proofs.NamedLaws.{read-unformed}
-use Rattle.catalogue.specs.Line.{label_in, name_in, read_line}
-use Rattle.catalogue.specs.Given.{named_paper}
+use Rattle.catalogue.specs.Line.{label_in, name_in, with_name, read_line}
 
 -- ---- the label is a beginning of the line, and the name its end
 
@@ -74,32 +76,29 @@ read-bare line e =
     by (refused n v) = refl
 
 -- and where it is not, what follows the space is the name
-pub read_named : (line : List ℕ) → end_of line < length line → named_paper (read_label (take (end_of line) line)) (take (length line - (end_of line + 1)) (drop (end_of line + 1) line)) ≡ read_line line
+pub read_named : (line : List ℕ) → end_of line < length line → (read_label (take (end_of line) line) >>= with_name (take (length line - (end_of line + 1)) (drop (end_of line + 1) line))) ≡ read_line line
 unfolding read_line
 read_named line h = ⊎_elim short long (le-or-less (length (label_in line)) 16)
   where
-    short : length (label_in line) ≤ 16 → named_paper (read_label (take (end_of line) line)) (take (length line - (end_of line + 1)) (drop (end_of line + 1) line)) ≡ read_line line
+    short : length (label_in line) ≤ 16 → (read_label (take (end_of line) line) >>= with_name (take (length line - (end_of line + 1)) (drop (end_of line + 1) line))) ≡ read_line line
     short l =
         let e : end_of line ≡ length (label_in line) = omega arith in
         rw (e, label-taken line, name-taken line, lt-ltb (length (label_in line)) (length line) (omega arith))
 
-    long : 16 < length (label_in line) → named_paper (read_label (take (end_of line) line)) (take (length line - (end_of line + 1)) (drop (end_of line + 1) line)) ≡ read_line line
+    long : 16 < length (label_in line) → (read_label (take (end_of line) line) >>= with_name (take (length line - (end_of line + 1)) (drop (end_of line + 1) line))) ≡ read_line line
     long l =
         let e : end_of line ≡ 17 = omega arith in
         let f : length (take 17 line) ≡ 17 = length-take 17 line ∙ omega (arith, label-within line) in
         rw (e, long-formed (take 17 line) (omega (arith, f)), long-label line l)
 
--- ---- a loop over the bytes, which has come to place i
+-- a label that is refused is its line's refusal
+pub read-refused : (line : List ℕ) (why : Refusal) → on_paper why ≡ read_label (take (end_of line) line) → on_paper why ≡ read_line line
+read-refused line why e =
+    ⊎_elim (λ l. e ∙ read-bare line (omega (arith, end-within line))) (λ h. asked-on why _ e ∙ read_named line h) (le-or-less (length line) (end_of line))
 
-module _ (test : ℕ → Bool) (s : List ℕ) (i : ℕ) where
-  pub every-fails : i < length s → test (get_or s i 0) ≡ false → every test (drop i s) ≡ false
-  unfolding every
-  every-fails h e = rw (drop-cons s i 0 h, e)
+-- ---- bytes that all pass a test
 
-  pub every-on : i < length s → test (get_or s i 0) ≡ true → every test (drop i s) ≡ every test (drop (i + 1) s)
-  unfolding every
-  every-on h e = rw (drop-cons s i 0 h, e, add-one i)
-
-  pub every-end : length s ≤ i → every test (drop i s) ≡ true
-  unfolding every
-  every-end h = rw (drop_of_length-le s h)
+pub every-all : (test : ℕ → Bool) (s : List ℕ) → list_all test s ≡ every test s
+unfolding every
+every-all test [] = refl
+every-all test (b ∷ s) = ap (λ (t : Bool). test b && t) (every-all test s)

@@ -3,5 +3,4 @@ pub mod PlaceLaws
 pub mod PartLaws
 pub mod MarkLaws
 pub mod OccurLaws
-pub mod AnswerLaws
 pub mod DeliveryTheorems

@@ -24,7 +24,7 @@ use Rattle.division.proofs.MemberLaws.{in_mem, mem-in, mem-at, mem-place}
 use Rattle.division.proofs.CoverLaws.{passes, block-is}
 use Rattle.delivery.specs.Delivery.{in_turn, good_place, delivered, against, check_delivery}
 use Rattle.delivery.specs.Given.{sheets_of, Stands, Marked, marked_place, all_marked}
-use Rattle.delivery.proofs.TurnLaws.{Turning, turning-first, turning-more, turning-stops, turning-done, by-places}
+use Rattle.delivery.proofs.TurnLaws.{Turning, turning-more, turning-stops, turning-done, by-places}
 
 -- ---- a sheet that stands in the cover, or does not
 
@@ -95,9 +95,6 @@ pub record Marking (cover sheets : List ℕ) (marks : List Bool) (i : ℕ) : Typ
   pub turns : Turning (good_place cover sheets) (length sheets) i
   pub marked : Marked cover (take i sheets) marks
 
-pub marking-first : (cover sheets : List ℕ) (marks : List Bool) → Marked cover [] marks → Marking cover sheets marks 0
-marking-first cover sheets marks m = record { turns = turning-first (good_place cover sheets) (length sheets); marked = m }
-
 module _ {cover sheets : List ℕ} {marks : List Bool} {i r : ℕ} (k : Marking cover sheets marks i) (h : i < length sheets) (t : Stands cover (get_or sheets i 0) r) where
   pub strange-here : r ≡ length cover → refused 25 i ≡ in_turn (good_place cover sheets) (from 0 (length sheets))
   strange-here e = turning-stops (good_place cover sheets) k.turns h (NotOfCover i) (place-strange cover sheets i (not-of-cover t e))
@@ -129,9 +126,6 @@ module _ (cover : List ℕ) (marks : List Bool) {n i : ℕ} (t : Turning (marked
   all_there h e = rw (← turning-done (marked_place cover marks) t h, e)
 
 -- ---- both together
-
-pub room_for : {cover sheets : List ℕ} {marks : List Bool} {n : ℕ} → Marked cover sheets marks → length cover ≡ n → n ≤ length marks
-room_for m e = omega (arith, m.room, e)
 
 module _ (cover sheets : List ℕ) where
   pub bad-place : (why : Refusal) → on_paper why ≡ in_turn (good_place cover sheets) (from 0 (length sheets)) → on_paper why ≡ against cover sheets

@@ -7,7 +7,12 @@ use native.Mathlib.Omega.{arith}
 use borrow.Author.Tests.{leb-true, ltb-true, le-leb, lt-ltb}
 use lib.ListN.{length, get_or}
 use lib.Arith.{digits_lt, digits_div, digits_mod}
+use Rattle.std.specs.Prelude.{Option, Some, None, Result, Ok, Err}
+use Rattle.std.specs.Result.{result_unwrap_or}
+use Rattle.refusal.specs.declared.Refusal.{Refusal}
 use Rattle.refusal.specs.Paper.{answer}
+use Rattle.refusal.specs.Numbers.{paper}
+use Rattle.refusal.proofs.PaperLaws.{same_answer, differs, on-paper}
 use Rattle.division.specs.declared.Place.{Place}
 use Rattle.division.specs.declared.cover.Block.{Block}
 use Rattle.division.specs.Words.{between}
@@ -19,7 +24,7 @@ use Rattle.division.proofs.MadeLaws.{quot}
 use Rattle.division.proofs.TableLaws.{rules}
 use Rattle.division.proofs.NumberLaws.{Ranged, in-range, of-scale, sheet-place, scale-sheet, place-sheet, is-sheet, sheet-there}
 use Rattle.division.proofs.BlockLaws.{sheet_in, length-spans, some, placed, at-index}
-use Rattle.delivery.specs.Given.{InGrid, sheets_of, count_of, has_place, block_place, place_in, Stands}
+use Rattle.delivery.specs.Given.{InGrid, sheets_of, count_of, has_place, block_place, place_in, Stands, IsPlaceIn, IsPlaceOf}
 
 -- what the test of a place says
 pub record InBlock (b : Block) (p : Place) : Type 0 where
@@ -61,6 +66,10 @@ module _ {s : ℕ} {b : Block} (f : InGrid s b) where
   -- the sheet that a place's row and column have
   pub sheet-there-is : (i : ℕ) → i < count_of b → sheet_on s (record { row = b.down.first + i / b.across.count; column = b.across.first + i % b.across.count }) ≡ answer (get_or (sheets_of s b) i 0)
   sheet-there-is i l = sheet-there _ (placed f i l) ∙ ap answer (sym (at-index f i l))
+
+  pub sheet-there-told : (i : ℕ) → i < count_of b → (r : Result ℕ Refusal) → paper r ≡ sheet_on s (record { row = b.down.first + i / b.across.count; column = b.across.first + i % b.across.count }) → result_unwrap_or r 0 ≡ get_or (sheets_of s b) i 0
+  sheet-there-told i l (Ok k) e = same_answer (e ∙ sheet-there-is i l)
+  sheet-there-told i l (Err why) e = absurd (differs (sym (sheet-there-is i l) ∙ sym e ∙ (on-paper why).is ℕ))
 
   -- the sheet at a place of the cover is of the scale, and in the row and the column that the place tells
   record At (sheet i : ℕ) : Type 0 where
@@ -148,3 +157,11 @@ module _ {s : ℕ} {b : Block} (f : InGrid s b) where
           by : (t : Bool) → has_place b (place_of sheet) ≡ t → Stands (sheets_of s b) sheet (cond t (block_place b (place_of sheet)) (count_of b))
           by true g = stands-inside (in_block b (place_of sheet) g)
           by false g = stands-nowhere (λ i h a. clash (has-place b (place_of sheet) (found-there sheet i h a)) g)
+
+      -- and where a sheet that stands nowhere has no place
+      pub stands-told : (p : Place) {r : Option ℕ} → p ≡ place_at (made s) (sheet - first s) → IsPlaceIn b p r → IsPlaceOf (sheets_of s b) sheet r
+      stands-told p g q = subst (IsPlaceOf (sheets_of s b) sheet) (sym q) (by (has_place b p) refl (stands-so p g))
+        where
+          by : (t : Bool) → has_place b p ≡ t → Stands (sheets_of s b) sheet (cond t (block_place b p) (count_of b)) → IsPlaceOf (sheets_of s b) sheet (cond t (Some (block_place b p)) None)
+          by true h t = (rw length-is (in-cover (in_block b p h)), t)
+          by false h t = rw length-is t

@@ -23,9 +23,6 @@ module _ (judge : ℕ → Paper Unit) where
     pub upto : i ≤ n
     pub rest : in_turn judge (from 0 n) ≡ in_turn judge (from i (n - i))
 
-  pub turning-first : (n : ℕ) → Turning n 0
-  turning-first n = let e : n - 0 ≡ n = omega arith in record { upto = omega arith; rest = rw e }
-
   module _ {n i : ℕ} (t : Turning n i) where
     pub turning-more : i < n → judge i ≡ answer tt → Turning n (i + 1)
     unfolding in_turn

@@ -1,5 +1,5 @@
 -- What the inner functions take for granted and give: the public one asks for the rows and columns of the cover first.
-use Rattle.std.specs.Prelude.{ℕ, ◌+◌, ◌-◌, ◌*◌, ◌≤◌, ◌<◌, ◌≡◌, Bool, false, cond, ◌&&◌, List, length, get_or}
+use Rattle.std.specs.Prelude.{ℕ, ◌+◌, ◌-◌, ◌*◌, ◌≤◌, ◌<◌, ◌≡◌, Bool, false, cond, ◌&&◌, List, length, get_or, Option, Some, None}
 use Rattle.refusal.specs.Paper.{Paper, answer, refuse◌at◌unless◌, ◌>>◌}
 use Rattle.refusal.specs.Numbers.{is_in}
 use Rattle.division.specs.declared.Place.{Place}
@@ -44,11 +44,20 @@ block_place b p = (p.row - b.down.first) * b.across.count + (p.column - b.across
 abbrev pub place_in : Block → Place → ℕ
 place_in b p = cond (has_place b p) (block_place b p) (count_of b)
 
+-- the same where a place that is none of it has none
+abbrev pub IsPlaceIn : Block → Place → Option ℕ → Type 0
+IsPlaceIn b p r = r ≡ cond (has_place b p) (Some (block_place b p)) None
+
 -- r is the place of a sheet in the cover, the only one, or behind the last if there is none
 pub record Stands (cover : List ℕ) (sheet r : ℕ) : Type 0 where
   pub few : r ≤ length cover
   pub is : r < length cover → get_or cover r 0 ≡ sheet
   pub only : (i : ℕ) → i < length cover → get_or cover i 0 ≡ sheet → i ≡ r
+
+-- and here too
+abbrev pub IsPlaceOf : List ℕ → ℕ → Option ℕ → Type 0
+IsPlaceOf cover sheet (Some r) = (r < length cover) × Stands cover sheet r
+IsPlaceOf cover sheet None = Stands cover sheet (length cover)
 
 -- there is a mark for each place of the cover, which is set if its sheet is one of these
 pub record Marked (cover sheets : List ℕ) (marks : List Bool) : Type 0 where

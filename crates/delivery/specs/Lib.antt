@@ -1,4 +1,3 @@
 pub mod Delivery
-pub mod Answers
 pub mod Given
 pub mod Theorems

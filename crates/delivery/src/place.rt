@@ -17,10 +17,7 @@ fn in_area(s: u32, i: u32) -> Place
     let columns = Scale(s).row().columns;
     let row = i / columns;
     let column = i % columns;
-    Place {
-        row: row,
-        column: column,
-    }
+    Place { row, column }
 }
 
 // At a scale that is made from another: the index of the sheet that it is a part of, and with that sheet's place its own.
@@ -42,38 +39,16 @@ fn in_parent(s: u32, i: u32, up: Place) -> Place
     let part = i % t.parts;
     let row = up.row * side + part / side;
     let column = up.column * side + part % side;
-    Place {
-        row: row,
-        column: column,
-    }
+    Place { row, column }
 }
 
-// At a scale that is made from scale 3, which the area is made into; from one of those; and from one of those in turn.
+// At a scale that is made from scale 3, which the area is made into.
 fn once(s: u32, i: u32) -> Place
     requires of_parent { OfParent s i }
     requires s_value { parent_scale s ≡ 3 }
     ensures { result ≡ place_at (made s) i }
 {
     in_parent(s, i, in_area(3, above(s, i)))
-}
-
-fn twice(s: u32, up: u32, i: u32) -> Place
-    requires of_parent { OfParent s i }
-    requires s_value { parent_scale s ≡ up }
-    requires up_value { parent_scale up ≡ 3 }
-    ensures { result ≡ place_at (made s) i }
-{
-    in_parent(s, i, once(up, above(s, i)))
-}
-
-fn thrice(s: u32, up: u32, top: u32, i: u32) -> Place
-    requires of_parent { OfParent s i }
-    requires s_value { parent_scale s ≡ up }
-    requires up_value { parent_scale up ≡ top }
-    requires top_value { parent_scale top ≡ 3 }
-    ensures { result ≡ place_at (made s) i }
-{
-    in_parent(s, i, twice(up, top, above(s, i)))
 }
 
 pub(crate) fn place_at(s: u32, i: u32) -> Place
@@ -83,10 +58,13 @@ pub(crate) fn place_at(s: u32, i: u32) -> Place
     match s {
         4 => once(4, i),
         5 => once(5, i),
-        6 => twice(6, 4, i),
+        6 => in_parent(6, i, once(4, above(6, i))),
         7 => once(7, i),
-        8 => twice(8, 7, i),
-        9 => thrice(9, 8, 7, i),
+        8 => in_parent(8, i, once(7, above(8, i))),
+        9 => {
+            let up = above(9, i);
+            in_parent(9, i, in_parent(8, up, once(7, above(8, up))))
+        }
         _ => in_area(s, i),
     }
 }

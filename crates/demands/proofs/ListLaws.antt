@@ -14,10 +14,8 @@ use Rattle.refusal.proofs.PaperLaws.{same_answer, same_number, same-value}
 use Rattle.division.specs.Words.{◌≤?◌}
 use Rattle.division.proofs.TestLaws.{both, le-or-less}
 use Rattle.label.specs.Text.{every}
-use Rattle.shelf.specs.declared.kind.Kind as code
-use Rattle.shelf.specs.declared.kind.Kind.TheVariants.{Sheets}
 use Rattle.shelf.specs.Number.{Number, read_number}
-use Rattle.shelf.specs.Kind.{kind_of}
+use Rattle.shelf.specs.Kind.{kind_of, KindName, Sheets}
 use Rattle.shelf.specs.Writing.{bytes_in, set_in, wholly_in}
 use Rattle.shelf.specs.Reading.{Reading, stop, entries_in, behind_in, read_in, kind_told, each_as}
 use Rattle.shelf.proofs.KindLaws.{Works, works, kind-told}
@@ -32,7 +30,7 @@ use Rattle.demands.proofs.GivesLaws.{given-listed, number-gives, count_gives, ju
 -- ---- the room needed
 
 -- a count above the room gives 10, in the reader of its kind and in the new one
-above_in : (kind : code.Kind) (bytes : List ℕ) (room count : ℕ) → CountAbove (kind_of kind) bytes room count → read_in (kind_of kind) bytes room ≡ stop (refused 10 count)
+above_in : (kind : KindName) (bytes : List ℕ) (room count : ℕ) → CountAbove (kind_of kind) bytes room count → read_in (kind_of kind) bytes room ≡ stop (refused 10 count)
 above_in kind bytes room count c =
     first_read (kind_of kind) bytes room _ c.written ∙ count_room (kind_of kind) ((kind_of kind).begins count) c.rest room count ((works kind).counts count c.few) c.above
 
@@ -44,7 +42,7 @@ above-needs (of_kind kind) bytes room count c = new-reader (kind_of kind) bytes 
     tells first e = ap (λ (n : Number). kind_told n.value) (same_answer (sym e ∙ c.written)) ∙ kind-told kind count c.few
 
 -- nothing else does
-module _ (kind : code.Kind) (bytes : List ℕ) (room v : ℕ) where
+module _ (kind : KindName) (bytes : List ℕ) (room v : ℕ) where
   entries-not-10 : (more least : ℕ) (rest : List ℕ) → (entries_in (kind_of kind) more least rest).ended ≡ refused 10 v → ⊥
   entries-not-10 more least rest e =
       false≢true (given-listed (subst (Gives (11 ∷ 12 ∷ 13 ∷ 24 ∷ 14 ∷ [])) e (entries-give (kind_of kind) (λ n. judge-gives kind 13 n refl refl) refl refl refl more least rest)))

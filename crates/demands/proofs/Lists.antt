@@ -10,9 +10,7 @@ use lib.ListN.{length, take, length-map}
 use Rattle.refusal.specs.Paper.{answer}
 use Rattle.holding.specs.Holding.{sheet_in, product_in, Unstated}
 use Rattle.holding.proofs.HoldingTheorems.{holding-passes, passes-holding, parts-back, number-back, one_number}
-use Rattle.shelf.specs.declared.kind.Kind as code
-use Rattle.shelf.specs.declared.kind.Kind.TheVariants.{Sheets, Holdings}
-use Rattle.shelf.specs.Kind.{Kind, of_sheets, of_holdings, kind_of}
+use Rattle.shelf.specs.Kind.{Kind, of_sheets, of_holdings, kind_of, KindName, Sheets, Holdings}
 use Rattle.shelf.specs.Writing.{bytes_in, set_in, write_in}
 use Rattle.shelf.specs.Reading.{Reading, read_list, read_holdings}
 use Rattle.shelf.proofs.KindLaws.{works}
@@ -70,14 +68,14 @@ listed way set numbers stand e =
 pub each-holding-set-has-list : EachHoldingSetHasList
 each-holding-set-has-list = record { each = each; only = only }
   where
-    each : (kind : code.Kind) (set : List ℕ) → Listable kind set → (bytes : List ℕ) × Listed (of_kind kind) set bytes
+    each : (kind : KindName) (set : List ℕ) → Listable kind set → (bytes : List ℕ) × Listed (of_kind kind) set bytes
     each Sheets set s = let t = new.unstated-set set (list.set-passes of_holdings set s.0) s.1 in listed (of_kind Sheets) set (map sheet_in set) t.1 t.0
     each Holdings set s = listed (of_kind Holdings) set set (sym (map-self set)) (list.set-passes of_holdings set s)
 
-    holding-set : (kind : code.Kind) (set bytes : List ℕ) → Listed (of_kind kind) set bytes → IsHoldingSet set
+    holding-set : (kind : KindName) (set bytes : List ℕ) → Listed (of_kind kind) set bytes → IsHoldingSet set
     holding-set kind set bytes l = subst IsHoldingSet (sym l.stand) (list.passes-set of_holdings (new.stand kind l.numbers) (new.stand-set kind l.numbers (set-of (of_kind kind) set bytes l).is))
 
-    only : (kind : code.Kind) (set bytes : List ℕ) → Listed (of_kind kind) set bytes → Listable kind set
+    only : (kind : KindName) (set bytes : List ℕ) → Listed (of_kind kind) set bytes → Listable kind set
     only Sheets set bytes l = (holding-set Sheets set bytes l, subst Unstated (sym l.stand) (λ i h. new.no-product l.numbers i))
     only Holdings set bytes l = holding-set Holdings set bytes l
 

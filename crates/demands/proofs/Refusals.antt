@@ -3,7 +3,7 @@
 use mathlib.Core.Path.{◌≡◌, refl, sym, subst}
 use mathlib.Core.Bool.{Bool, true, false, cond}
 use mathlib.Core.List.{List, [], ◌∷◌}
-use mathlib.Core.Option
+use Rattle.std.specs.Prelude.{unwrap_or}
 use Prim.Native.Nat.{ℕ}
 use lib.ListN.{length, get_or}
 use Rattle.refusal.specs.Paper.{Paper, ◌>>=◌}
@@ -34,9 +34,7 @@ use Rattle.official.proofs.VerdictTheorems.{place-repeated}
 use Rattle.holding.specs.declared.Task.{Task}
 use Rattle.holding.specs.declared.Task.TheVariants.{Writing, Reading}
 use Rattle.holding.specs.Holding.{has_product, past, holding, parts_of}
-use Rattle.shelf.specs.declared.kind.Kind as code
-use Rattle.shelf.specs.declared.kind.Kind.TheVariants.{Sheets, Holdings}
-use Rattle.shelf.specs.Kind.{of_sheets, of_holdings, kind_of}
+use Rattle.shelf.specs.Kind.{of_sheets, of_holdings, kind_of, KindName, Sheets, Holdings}
 use Rattle.shelf.specs.Writing.{list_bytes, bytes_in, write_in, length_in}
 use Rattle.shelf.proofs.HoldingsTheorems.{read_as}
 use Rattle.demands.specs.Refusals.{Gives, answers, RefusalsNumbered, PlacesTold}
@@ -44,7 +42,7 @@ use Rattle.demands.proofs.GivesLaws.{test-gives, then-gives, line_gives, found-g
 
 name-gives : (n room : ℕ) → Gives (3 ∷ 22 ∷ 10 ∷ []) (write_name n room)
 unfolding write_name
-name-gives n room = line_gives 3 (is_sheet n) refl (line_gives 22 (is250000 n) refl (laid-gives (Option.get_or (name_of n) []) room refl))
+name-gives n room = line_gives 3 (is_sheet n) refl (line_gives 22 (is250000 n) refl (laid-gives (unwrap_or (name_of n) []) room refl))
 
 -- a municipality is judged, and its sheets and their parts are asked as any sheet's are
 abbrev Municipal : {A : Type 0} → Paper A → Type 0
@@ -87,7 +85,7 @@ module _ (sheets : List ℕ) where
       by false true = found-gives (parent-gives n) λ up. place-gives up λ i. answers
       by false false = found-gives (parent-gives n) λ up. found-gives (parent-gives up) λ top. place-gives top λ i. answers
 
-judged-gives : (kind : code.Kind) (task : Task) (number : ℕ) → Gives (past task ∷ 24 ∷ []) ((kind_of kind).judge (past task) number)
+judged-gives : (kind : KindName) (task : Task) (number : ℕ) → Gives (past task ∷ 24 ∷ []) ((kind_of kind).judge (past task) number)
 judged-gives kind Writing number = judge-gives kind 3 number refl refl
 judged-gives kind Reading number = judge-gives kind 13 number refl refl
 

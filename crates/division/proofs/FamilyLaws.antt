@@ -1,11 +1,12 @@
 -- A scale and its parent's: a place lies in its parent's place, an index in its parent's index. Assumes nothing.
 use mathlib.Core.Path.{◌≡◌, refl, sym, ap, ◌∙◌, subst}
+use Rattle.std.specs.Prelude.{Option, None, Some, unwrap_or}
 use Prim.Native.Nat.{ℕ, zero, suc, ◌+◌, ◌-◌, ◌*◌, ◌/◌, ◌%◌, ◌≤◌, ◌<◌}
 use native.Mathlib.Nat.{mod-lt, mul-pos, mul-add, mul_comm, mul_assoc, mul-le-mul, mul-le-mul_right, le-mul_of_pos_right, le_trans}
 use native.Mathlib.Omega.{arith}
 use Rattle.division.specs.declared.Place.{Place}
 use Rattle.division.specs.declared.table.Row.{Row}
-use Rattle.division.specs.Table.{Made, of_area, of_scale, table, table_row, rows_of, columns_of, made, rows, columns, parent_scale, side, parts, sheets, first, code_row}
+use Rattle.division.specs.Table.{Made, of_area, of_scale, parent_of, parent_in, table, table_row, rows_of, columns_of, made, rows, columns, parent_scale, side, parts, sheets, first, code_row}
 use Rattle.division.specs.Sheet.{number_in, parent_place, child_place, area_index, area_place, part_index, index_at, place_at, sheet_of}
 use Rattle.division.specs.Given.{IsScale, OnGrid, Indexed, Parted, PartPlace}
 use Rattle.division.proofs.MadeLaws.{Sound, On, quot, number-few, sheets-parts, on-parent, on-place, left_one, left-few}
@@ -37,6 +38,35 @@ module _ {s : ℕ} (h : IsScale s) (e : parent_scale s ≡ 0) where
   top-few p o = omega (arith, top-index p, index-few o, (rules h).few)
 
 -- ---- a scale that is made from its parent's
+
+-- the parent by itself, as the code has it
+pub at_area : (m : Made) → ((p : ℕ) → parent_in m ≡ Some p → ⊥) → parent_of m ≡ 0
+at_area (of_area r c) e = refl
+at_area (of_scale s m k) e = absurd (e s refl)
+
+is_none : (m : Made) → parent_in m ≡ None → parent_of m ≡ 0
+is_none (of_area r c) e = refl
+is_none (of_scale s m k) e = let z : ◌≡◌ {A = ℕ} 0 1 = cc in absurd (omega arith)
+
+at_parent : (m : Made) {p : ℕ} → parent_in m ≡ Some p → p ≡ parent_of m
+at_parent (of_area r c) e = let z : ◌≡◌ {A = ℕ} 0 1 = cc in absurd (omega arith)
+at_parent (of_scale s m k) e = cc
+
+pub at_most : (m : Made) → unwrap_or (parent_in m) 0 ≡ parent_of m
+at_most (of_area r c) = refl
+at_most (of_scale s m k) = refl
+
+pub no_parent : (s : ℕ) → parent_in (made s) ≡ None → parent_scale s ≡ 0
+no_parent s e = is_none (made s) e
+
+pub the_parent : (s : ℕ) {p : ℕ} → parent_in (made s) ≡ Some p → p ≡ parent_scale s
+the_parent s e = at_parent (made s) e
+
+pub some-parent : {s p : ℕ} → IsScale s → parent_in (made s) ≡ Some p → parent_scale s ≡ 0 → ⊥
+some-parent {s} {p} h e z =
+    let t : ◌≡◌ {A = Option ℕ} None (Some p) = sym (ap parent_in (top h z)) ∙ e in
+    let f : ◌≡◌ {A = ℕ} 0 1 = cc in
+    omega arith
 
 module _ {s : ℕ} (h : IsScale s) (e : parent_scale s ≡ 0 → ⊥) where
   pub deep : made s ≡ of_scale (parent_scale s) (made (parent_scale s)) (side s)
@@ -115,17 +145,14 @@ pub record Climb (s : ℕ) (p : Place) (t : Row) (at : Place) (index each : ℕ)
   pub all : sheets s ≡ each * sheets up
   pub whole : index_at (made s) p ≡ index + each * index_at (made up) at
 
-pub climb-first : {s : ℕ} {p : Place} (t : Row) → t ≡ code_row s → OnGrid s p → Climb s p t p 0 1
-climb-first {s} t e o = record { up = s; row = e; from = o; on = o; all = omega arith; whole = omega arith }
-
 module _ {s : ℕ} {p : Place} {t : Row} {at : Place} {index each : ℕ} (c : Climb s p t at index each) where
   climb-few : index + each * index_at (made c.up) at < 6_000_000
   climb-few = omega (arith, c.whole, index-few c.from, (rules c.from.scale).few)
 
   -- at the area
-  module _ (e : t.parent ≡ 0) where
+  module _ (e : (p : ℕ) → t.parent ≡ Some p → ⊥) where
     top-parent : parent_scale c.up ≡ 0
-    top-parent = rw c.row at e
+    top-parent = at_area (made c.up) (rw c.row at e)
 
     pub climb-area : area_index t.columns at ≤ 6_000_000
     climb-area = rw c.row (top-few c.on.scale top-parent at c.on)
@@ -141,15 +168,18 @@ module _ {s : ℕ} {p : Place} {t : Row} {at : Place} {index each : ℕ} (c : Cl
       climb-done = rw at_top (sym c.whole)
 
   -- below a parent
-  module _ (e : t.parent ≡ 0 → ⊥) where
+  module _ {parent : ℕ} (e : t.parent ≡ Some parent) where
+    up_is : parent ≡ parent_scale c.up
+    up_is = the_parent c.up (rw c.row at e)
+
     deep-parent : parent_scale c.up ≡ 0 → ⊥
-    deep-parent = rw c.row at e
+    deep-parent = some-parent c.on.scale (rw c.row at e)
 
     pub climb-parted : Parted t.side
     climb-parted = rw c.row (parted c.on.scale deep-parent)
 
-    pub climb-up : (code_row t.parent).parent < t.parent
-    climb-up = rw c.row (rules (above c.on.scale deep-parent)).above
+    pub climb-up : unwrap_or (parent_in (made parent)) 0 < unwrap_or t.parent 0
+    climb-up = rw (e, at_most (made parent), up_is) (rules (above c.on.scale deep-parent)).above
 
     -- by the parent's index and the number there
     parts_whole : index_at (made s) p ≡ index + each * (number_in (side c.up) at - 1) + each * parts c.up * index_at (made (parent_scale c.up)) (parent_place (side c.up) at)
@@ -171,10 +201,10 @@ module _ {s : ℕ} {p : Place} {t : Row} {at : Place} {index each : ℕ} (c : Cl
       pub climb-sum : index + each * (number - 1) < 6_000_000
       climb-sum = rw number_is (omega (arith, parts_whole, index-few c.from, (rules c.from.scale).few))
 
-      pub climb-next : (r : Row) (q : Place) → r ≡ code_row t.parent → q ≡ parent_place t.side at → Climb s p r q (index + each * (number - 1)) (each * t.parts)
+      pub climb-next : (r : Row) (q : Place) → r ≡ code_row parent → q ≡ parent_place t.side at → Climb s p r q (index + each * (number - 1)) (each * t.parts)
       climb-next r q g b = record {
         up = parent_scale c.up;
-        row = rw c.row at g;
+        row = rw up_is at g;
         from = c.from;
         on = rw (b, c.row) (parent-on c.on.scale deep-parent at c.on);
         all = rw c.row (sheets-by c.on.scale deep-parent (sheets s) each c.all);

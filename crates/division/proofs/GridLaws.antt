@@ -5,7 +5,7 @@ use Prim.Native.Nat.{ℕ, zero, suc, ◌-◌, ◌*◌, ◌/◌, ◌≤◌, ◌<�
 use native.Mathlib.Nat.{mul-le-mul_right, mul_comm, mul_assoc, zero-mul}
 use native.Mathlib.Omega.{arith}
 use borrow.Author.Tests.{leb-true, ltb-true}
-use lib.IntN.{ℤ, pos, nat_abs, ◌-ℤ◌}
+use lib.IntN.{ℤ, pos}
 use Rattle.division.specs.Words.{◌≤ᶻ◌, ◌<ᶻ◌}
 use Rattle.division.specs.Table.{width, height, rows, columns}
 use Rattle.division.specs.Grid.{millimetres, area, column_at, row_at, north_of}
@@ -78,13 +78,6 @@ pub north : (y : ℤ) → (area.south <ᶻ y) ≡ true → (y ≤ᶻ area.north)
 north y a b =
     let p = after-pos y a in
     record { n = p.0.n; is = p.0.is; from = p.1; to = leb-true p.0.n 5_170_000_000 (rw p.0.is at b) }
-
--- how far they lie from the upper left corner
-pub east-few : {e : ℤ} → East e → nat_abs (e -ℤ area.west) < 600_000_000
-east-few x = rw (x.is, pos-minus x.n 200_000_000 x.from) (omega (arith, x.to))
-
-pub north-few : {y : ℤ} → North y → nat_abs (area.north -ℤ y) < 600_000_000
-north-few x = rw (x.is, pos-minus 5_170_000_000 x.n x.to) (omega (arith, x.from))
 
 -- their column and their row are on the grid
 module _ {s : ℕ} (h : IsScale s) where

@@ -16,5 +16,4 @@ pub mod MeetLaws
 pub mod MemberLaws
 pub mod CoverTheorems
 pub mod SheetTheorems
-pub mod AnswerLaws
 pub mod MetreLaws

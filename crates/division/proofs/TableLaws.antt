@@ -70,14 +70,6 @@ scale s e = let b = both (1 ≤? s) (s ≤? 9) e in record { one = leb-true 1 s 
 pub is-scale : {s : ℕ} → IsScale s → is_scale s ≡ true
 is-scale {s} h = rw (le-leb 1 s h.one, le-leb s 9 h.nine)
 
--- a number that is none of the nine is no scale
-pub none-of-nine : (s : ℕ) → Each (λ k. s ≡ k → ⊥) 9 → is_scale s ≡ false
-none-of-nine s h = by (is_scale s) refl
-  where
-    by : (b : Bool) → is_scale s ≡ b → b ≡ false
-    by true e = absurd (each (λ k. s ≡ k → ⊥) 9 h s (scale s e).one (scale s e).nine refl)
-    by false e = refl
-
 -- and a scale that is none of the first eight is the ninth
 pub none-of-eight : {s : ℕ} → IsScale s → Each (λ k. s ≡ k → ⊥) 8 → s ≡ 9
 none-of-eight {s} i h =

@@ -6,7 +6,7 @@ use Prim.Native.Nat.{ℕ, zero, suc, ◌+◌, ◌-◌, ◌^◌, ◌≤◌, ◌<�
 use native.Mathlib.Omega.{arith}
 use borrow.Author.Tests.{leb-true, ltb-true, le-leb, lt-leb, lt-ltb, le-ltb}
 use lib.Dec.{leb, ltb}
-use lib.IntN.{ℤ, pos, negsuc, ◌+ℤ◌, ◌-ℤ◌}
+use lib.IntN.{ℤ, pos, negsuc, ◌-ℤ◌}
 use lib.Signed.{le_z, lt_z, mag}
 use mir.Syntax.{w64}
 use mir.Val.{SFits, to_z, of_z}
@@ -82,32 +82,10 @@ gap a b r =
 
 -- ---- differences of either sign
 
-pub pos-less : (a b : ℕ) → a < b → pos a -ℤ pos b ≡ negsuc (b - suc a)
-pos-less a zero h = absurd (omega arith)
-pos-less a (suc b) h = rw (lt-ltb a (suc b) h)
-
-pub less-fits : (a b : ℕ) → a < 2 ^ 63 → b < 2 ^ 63 → SFits w64 (pos a -ℤ pos b)
-less-fits a b h l =
-    ⊎_elim (λ k. rw (pos-minus a b k) (record { sfits = omega arith })) (λ k. rw (pos-less a b k) (record { sfits = omega arith })) (le-or-less b a)
-
 pub same-leb : (a b c d : ℕ) → (a ≤ b → c ≤ d) → (c ≤ d → a ≤ b) → leb a b ≡ leb c d
 same-leb a b c d f g =
     ⊎_elim (λ h. le-leb a b h ∙ sym (le-leb c d (f h)))
     (λ h. ⊎_elim (λ k. absurd (omega (arith, g k))) (λ k. lt-leb a b h ∙ sym (lt-leb c d k)) (le-or-less c d)) (le-or-less a b)
-
--- a − b ≤ c exactly if a ≤ b + c, and c < a − b exactly if b + c < a
-pub le-shift : (a b : ℕ) (c : ℤ) → le_z (pos a -ℤ pos b) c ≡ le_z (pos a) (pos b +ℤ c)
-le-shift a b (pos d) =
-    ⊎_elim (λ k. rw (pos-minus a b k) (same-leb (a - b) d a (b + d) (λ h. omega arith) (λ h. omega arith)))
-    (λ k. rw (pos-less a b k) (sym (le-leb a (b + d) (omega arith)))) (le-or-less b a)
-le-shift a b (negsuc d) = by (le-or-less b a) (le-or-less (suc d) b)
-  where
-    by : (b ≤ a) ⊎ (a < b) → (suc d ≤ b) ⊎ (b < suc d) → le_z (pos a -ℤ pos b) (negsuc d) ≡ le_z (pos a) (pos b -ℤ pos (suc d))
-    by (inl k) (inl l) = rw (pos-minus a b k, pos-minus b (suc d) l) (sym (lt-leb a (b - suc d) (omega arith)))
-    by (inl k) (inr l) = rw (pos-minus a b k, pos-less b (suc d) l)
-    by (inr k) (inl l) =
-        rw (pos-less a b k, pos-minus b (suc d) l) (same-leb d (b - suc a) a (b - suc d) (λ h. omega arith) (λ h. omega arith))
-    by (inr k) (inr l) = rw (pos-less a b k, pos-less b (suc d) l) (lt-leb d (b - suc a) (omega arith))
 
 ltb-not : (a b : ℕ) → ltb a b ≡ not (leb b a)
 ltb-not a b =
@@ -118,6 +96,3 @@ lt_not (pos a) (pos b) = ltb-not a b
 lt_not (pos a) (negsuc b) = refl
 lt_not (negsuc a) (pos b) = refl
 lt_not (negsuc a) (negsuc b) = ltb-not b a
-
-pub lt-shift : (a b : ℕ) (c : ℤ) → lt_z c (pos a -ℤ pos b) ≡ lt_z (pos b +ℤ c) (pos a)
-lt-shift a b c = lt_not c (pos a -ℤ pos b) ∙ ap not (le-shift a b c) ∙ sym (lt_not (pos b +ℤ c) (pos a))

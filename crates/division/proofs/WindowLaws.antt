@@ -1,10 +1,10 @@
 -- A window in the area: its edges are plain numbers, and the columns and rows that it meets are spans of the grid. Assumes nothing.
-use mathlib.Core.Path.{◌≡◌, refl, ◌∙◌}
+use mathlib.Core.Path.{◌≡◌, ◌∙◌}
 use mathlib.Core.Bool.{Bool, ◌&&◌, and_comm}
 use Prim.Native.Nat.{ℕ, suc, ◌+◌, ◌-◌, ◌*◌, ◌≤◌, ◌<◌}
 use native.Mathlib.Nat.{add-mul, one-mul}
 use native.Mathlib.Omega.{arith}
-use borrow.Author.Tests.{le-leb, leb-true}
+use borrow.Author.Tests.{leb-true}
 use lib.Dec.{ltb}
 use lib.IntN.{pos, nat_abs, ◌-ℤ◌}
 use Rattle.division.specs.declared.Edges.{Edges}
@@ -13,7 +13,7 @@ use Rattle.division.specs.Table.{width, height, rows, columns}
 use Rattle.division.specs.Grid.{millimetres, area, west_of, north_of}
 use Rattle.division.specs.Cover.{columns_in, rows_in}
 use Rattle.division.specs.Given.{Seen, span_of}
-use Rattle.division.proofs.TestLaws.{Ahead, both, from-pos, after-pos, pos-minus, same-leb}
+use Rattle.division.proofs.TestLaws.{both, from-pos, after-pos, pos-minus, same-leb}
 use Rattle.division.proofs.GridLaws.{some-width, some-height, all-columns, all-rows, high-in, north-is}
 use Rattle.division.proofs.SpanLaws.{Spans, meets, Stretch, span_run}
 
@@ -68,18 +68,6 @@ same a b c d f g = same-leb (suc a) b (suc c) d f g
 
 module _ {s : ℕ} {w : Edges} (h : Seen s w) where
   -- ---- its edges lie beyond the area's west edge, and before the area's north edge
-
-  pub west-rises : Ahead area.west w.west
-  west-rises = let b = bounds h in rw b.is (refl, le-leb 200_000_000 b.west b.west-in)
-
-  pub east-rises : Ahead area.west w.east
-  east-rises = let b = bounds h in rw b.is (refl, le-leb 200_000_000 b.east (omega (arith, b.west-in, b.wide)))
-
-  pub north-rises : Ahead w.north area.north
-  north-rises = let b = bounds h in rw b.is (le-leb 0 b.north (omega arith), le-leb b.north 5_170_000_000 b.north-in)
-
-  pub south-rises : Ahead w.south area.north
-  south-rises = let b = bounds h in rw b.is (le-leb 0 b.south (omega arith), le-leb b.south 5_170_000_000 (omega (arith, b.north-in, b.high)))
 
   -- ---- the stretches between them, and the columns and rows that these meet
 

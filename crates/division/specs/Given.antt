@@ -6,6 +6,7 @@ use Rattle.division.specs.declared.cover.Span.{Span}
 use Rattle.division.specs.Table.{rows, columns, sheets}
 use Rattle.division.specs.Grid.{area, owns, within, column_at, row_at}
 use Rattle.division.specs.Sheet.{sheet_of}
+use Rattle.refusal.specs.Paper.{Paper, refuse◌unless◌, ◌>>◌}
 use Rattle.division.specs.Cover.{is_window}
 
 -- a scale
@@ -48,6 +49,12 @@ sheet_under s e n = sheet_of s (record { row = row_at s n; column = column_at s 
 -- the cells of a size that the stretch from a up to b of a line meets
 abbrev pub span_of : ℕ → ℕ → ℕ → Span
 span_of a b size = record { first = a / size; count = (b - 1) / size - a / size + 1 }
+
+-- a window in the area: "7, 8"
+abbrev pub window_in : Edges → Paper Unit
+window_in w = do
+  refuse 7 unless is_window w
+  refuse 8 unless within area w
 
 -- a scale, and a window in the area
 pub record Seen (s : ℕ) (w : Edges) : Type 0 where

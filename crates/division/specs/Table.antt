@@ -1,5 +1,5 @@
 -- The nine scales. Document 01, "The grid".
-use Rattle.std.specs.Prelude.{ℕ, ◌+◌, ◌-◌, ◌*◌, Bool, List, [], ◌∷◌, get_or}
+use Rattle.std.specs.Prelude.{ℕ, ◌+◌, ◌-◌, ◌*◌, Bool, List, [], ◌∷◌, get_or, Option, None, Some}
 use Rattle.division.specs.declared.table.Row.{Row}
 use Rattle.division.specs.Words.{between, from, keep}
 
@@ -67,10 +67,14 @@ unfoldable pub columns_of : Made → ℕ
 columns_of (of_area r c) = c
 columns_of (of_scale s m k) = columns_of m * k
 
--- the parent's scale, and how many parts of a parent lie each way; 0 for none
+-- the parent's scale, as a number and by itself, and how many parts of a parent lie each way; 0 for none
 abbrev pub parent_of : Made → ℕ
 parent_of (of_area r c) = 0
 parent_of (of_scale s m k) = s
+
+abbrev pub parent_in : Made → Option ℕ
+parent_in (of_area r c) = None
+parent_in (of_scale s m k) = Some s
 
 abbrev pub side_of : Made → ℕ
 side_of (of_area r c) = 0
@@ -120,6 +124,6 @@ code_row s = record {
   columns = columns s;
   parts = parts s;
   side = side s;
-  parent = parent_scale s;
+  parent = parent_in (made s);
   first = first s;
 }

@@ -1,20 +1,17 @@
 // The cover of a window.
-ghost use Rattle.std.specs.Prelude.{◌≡◌, ◌≤◌, ◌<◌, length};
+ghost use Rattle.std.specs.Prelude.{◌≡◌, true, ◌≤◌, ◌<◌, length};
 ghost use Rattle.std.proofs.lemmas.List.Edits.{sets};
 ghost use Rattle.refusal.specs.Paper.{counted, room_after};
-ghost use Rattle.refusal.specs.Numbers.{laid_paper};
+ghost use Rattle.refusal.specs.Numbers.{paper, Admits};
 ghost use Rattle.division.specs.Words.{from};
 ghost use Rattle.division.specs.Grid.{area, within};
-ghost use Rattle.division.specs.Sheet.{sheet_of};
 ghost use Rattle.division.specs.Cover.{is_window, columns_in, rows_in, block, spanned, block_in, cover};
-ghost use Rattle.division.specs.Answers.{block_paper};
-ghost use Rattle.division.specs.Given.{OnGrid, span_of, Seen, BlockRoom};
+ghost use Rattle.division.specs.Given.{window_in, span_of, BlockRoom};
 
-use crate::grid::{EAST, NORTH, SOUTH, WEST, distance, millimetres};
-use crate::sheet::number_at;
-use crate::table::{Scale, is_scale};
+use crate::grid::{Cell, EAST, Grid, NORTH, SOUTH, WEST, distance, millimetres};
+use crate::table::Scale;
 use crate::{Edges, Place};
-use refusal::{Laid, Refusal};
+use refusal::Refusal;
 
 // Rows or columns that follow one another.
 #[derive(Clone, Copy)]
@@ -30,23 +27,29 @@ pub struct Block {
     pub across: Span,
 }
 
-// The rows and columns that a window meets.
+// A window in the area.
 #[derive(Clone, Copy)]
-pub enum Windowed {
-    Meets(Block),
-    Refused(Refusal),
+struct Window {
+    edges: Edges,
+    ghost some: { is_window edges ≡ true },
+    ghost inside: { within area edges ≡ true },
 }
 
-fn is_window(w: Edges) -> bool
-    ensures { result ≡ is_window w }
-{
-    (w.west < w.east) & (w.south < w.north)
-}
-
-fn in_area(w: Edges) -> bool
-    ensures { result ≡ within area w }
-{
-    ((WEST <= w.west) & (w.east <= EAST)) & ((SOUTH <= w.south) & (w.north <= NORTH))
+impl Window {
+    fn of(edges: Edges) -> Result<Window, Refusal>
+        ensures { Admits result (window_in edges) (λ window. window.edges ≡ edges) }
+    {
+        let some = (edges.west < edges.east) & (edges.south < edges.north);
+        if !some {
+            return Err(Refusal::WindowOrder);
+        }
+        let inside = ((WEST <= edges.west) & (edges.east <= EAST))
+            & ((SOUTH <= edges.south) & (edges.north <= NORTH));
+        if !inside {
+            return Err(Refusal::WindowOutside);
+        }
+        Ok(Window { edges })
+    }
 }
 
 // The cells of a size that the stretch from a up to b meets.
@@ -58,107 +61,70 @@ fn span_of(a: u64, b: u64, size: u64) -> Span
 {
     let first = a / size;
     let last = (b - 1) / size;
-    let count = last - first + 1;
     Span {
         first: first as u32,
-        count: count as u32,
+        count: (last - first + 1) as u32,
     }
 }
 
-// The columns and the rows of a scale that share a point with a window in the area.
-fn columns_in(s: u32, w: Edges) -> Span
-    requires { Seen s w }
-    ensures { result ≡ spanned (columns_in s w) }
+// The columns and the rows of a grid that share a point with a window.
+fn columns_in(grid: Grid, window: Window) -> Span
+    ensures { result ≡ spanned (columns_in grid.scale window.edges) }
 {
-    let size = millimetres(Scale(s).width());
-    span_of(distance(w.west, WEST), distance(w.east, WEST), size)
+    let Edges { west, east, .. } = window.edges;
+    let size = millimetres(Scale(grid.scale).width());
+    span_of(distance(west, WEST), distance(east, WEST), size)
 }
 
-fn rows_in(s: u32, w: Edges) -> Span
-    requires { Seen s w }
-    ensures { result ≡ spanned (rows_in s w) }
+fn rows_in(grid: Grid, window: Window) -> Span
+    ensures { result ≡ spanned (rows_in grid.scale window.edges) }
 {
-    let size = millimetres(Scale(s).height());
-    span_of(distance(NORTH, w.north), distance(NORTH, w.south), size)
+    let Edges { south, north, .. } = window.edges;
+    let size = millimetres(Scale(grid.scale).height());
+    span_of(distance(NORTH, north), distance(NORTH, south), size)
 }
 
-// The sheet of a scale in a row and a column.
-fn sheet_in(s: u32, row: u32, column: u32) -> u32
-    requires { OnGrid s (record { row = row; column = column }) }
-    ensures { result ≡ sheet_of s (record { row = row; column = column }) }
+// Writes the sheets of a block, rows from the north, each from the west.
+fn fill(scale: u32, down: Span, across: Span, room: &mut [u32])
+    requires { BlockRoom scale down across (length room.old) }
+    ensures { room.new ≡ sets room.old 0 (block scale (from down.first down.count) (from across.first across.count)) }
 {
-    number_at(
-        s,
-        Place {
-            row: row,
-            column: column,
-        },
-    )
-}
-
-// Writes the sheets of the rows and columns, rows from the north, each from the west.
-fn fill(s: u32, down: Span, across: Span, room: &mut [u32])
-    requires { BlockRoom s down across (length room.old) }
-    ensures { room.new ≡ sets room.old 0 (block s (from down.first down.count) (from across.first across.count)) }
-{
-    let top = down.first;
-    let left = across.first;
-    let m = down.count;
-    let n = across.count;
-    let total = m * n;
-    let mut i: u32 = 0;
-    while i < total {
-        let r = i / n;
-        let c = i % n;
-        let x = sheet_in(s, top + r, left + c);
-        let at = i as usize;
-        room[at] = x;
-        i += 1;
+    let wide = across.count;
+    for i in 0..down.count * wide {
+        let place = Place {
+            row: down.first + i / wide,
+            column: across.first + i % wide,
+        };
+        room[i as usize] = Cell { scale, place }.sheet();
     }
 }
 
 // The rows and columns of a scale that share a point with a window, if their sheets are not too many: all that is refused of a cover, but
 // for the room.
-pub fn block_in(scale: u32, window: Edges) -> Windowed
-    ensures { block_paper result ≡ block_in scale window }
+#[tactic(auto, unfolding(crate::specs::Cover::coverable, crate::specs::Cover::block_in))]
+pub fn block_in(scale: u32, window: Edges) -> Result<Block, Refusal>
+    ensures { paper result ≡ block_in scale window }
 {
-    if !is_scale(scale) {
-        return Windowed::Refused(Refusal::NoScale);
+    let grid = Grid::of(scale)?;
+    let window = Window::of(window)?;
+    let down = rows_in(grid, window);
+    let across = columns_in(grid, window);
+    if 4_096 < down.count * across.count {
+        return Err(Refusal::TooMany);
     }
-    if !is_window(window) {
-        return Windowed::Refused(Refusal::WindowOrder);
-    }
-    if !in_area(window) {
-        return Windowed::Refused(Refusal::WindowOutside);
-    }
-    let down = rows_in(scale, window);
-    let across = columns_in(scale, window);
-    let count = down.count * across.count;
-    if 4_096 < count {
-        return Windowed::Refused(Refusal::TooMany);
-    }
-    Windowed::Meets(Block {
-        down: down,
-        across: across,
-    })
+    Ok(Block { down, across })
 }
 
 // The sheets of a scale that share a point with a window, laid into lent room.
-pub fn cover(scale: u32, window: Edges, room: &mut [u32]) -> Laid
-    ensures result_value { laid_paper result ≡ counted (cover scale window (length room.old)) }
+pub fn cover(scale: u32, window: Edges, room: &mut [u32]) -> Result<usize, Refusal>
+    ensures result_value { paper result ≡ counted (cover scale window (length room.old)) }
     ensures room_after { room.new ≡ room_after (cover scale window (length room.old)) room.old }
 {
-    match block_in(scale, window) {
-        Windowed::Refused(why) => Laid::Refused(why),
-        Windowed::Meets(b) => {
-            let down = b.down;
-            let across = b.across;
-            let count = (down.count * across.count) as usize;
-            if room.len() < count {
-                return Laid::Refused(Refusal::Room(count));
-            }
-            fill(scale, down, across, room);
-            Laid::Items(count)
-        }
+    let Block { down, across } = block_in(scale, window)?;
+    let count = (down.count * across.count) as usize;
+    if room.len() < count {
+        return Err(Refusal::Room(count));
     }
+    fill(scale, down, across, room);
+    Ok(count)
 }

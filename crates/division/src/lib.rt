@@ -12,8 +12,6 @@
 // south edge: a point on the edge between two sheets lies in the eastern one and in the southern one.
 #![tactic(auto)]
 
-use refusal::Refusal;
-
 pub mod cover;
 pub mod grid;
 pub mod sheet;
@@ -40,22 +38,4 @@ pub struct Edges {
     pub east: i64,
     pub south: i64,
     pub north: i64,
-}
-
-#[derive(Clone, Copy)]
-pub enum Found {
-    Sheet(u32),
-    Refused(Refusal),
-}
-
-#[derive(Clone, Copy)]
-pub enum Located {
-    At(Spot),
-    Refused(Refusal),
-}
-
-#[derive(Clone, Copy)]
-pub enum Corners {
-    Framed(Edges),
-    Refused(Refusal),
 }

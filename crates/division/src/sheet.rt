@@ -1,13 +1,13 @@
 // Sheet numbers and places, the sheet of a point, the corners of a sheet.
 ghost use Rattle.std.specs.Prelude.{◌≡◌, true, ◌≤◌, ◌<◌};
+ghost use Rattle.refusal.specs.Numbers.{paper};
 ghost use Rattle.division.specs.Table.{made};
-ghost use Rattle.division.specs.Sheet.{is_sheet, area_index, area_place, number_in, parent_place, child_place, index_at, place_at, sheet_of, scale_of, spot_of, on_grid, locate, sheet_on, sheet_at, corners_of};
-ghost use Rattle.division.specs.Answers.{sheet_paper, spot_paper, corners_paper};
-ghost use Rattle.division.specs.Given.{OnGrid, Indexed, Parted, PartPlace, Inside, sheet_under};
+ghost use Rattle.division.specs.Sheet.{is_sheet, area_index, area_place, number_in, parent_place, child_place, place_at, scale_of, place_of, locate, sheet_on, sheet_at, corners_of};
+ghost use Rattle.division.specs.Given.{Indexed, Parted, PartPlace, sheet_under};
 
-use crate::grid::{column_at, edges_of, in_area, row_at};
-use crate::table::{Scale, is_scale};
-use crate::{Corners, Found, Located, Place, Spot};
+use crate::grid::{Cell, Grid, Point};
+use crate::table::Scale;
+use crate::{Edges, Place, Spot};
 use refusal::Refusal;
 
 pub fn is_sheet(n: u32) -> bool
@@ -17,7 +17,7 @@ pub fn is_sheet(n: u32) -> bool
 }
 
 // A place of the area in columns, and its index.
-fn area_index(columns: u32, p: Place) -> u32
+pub(crate) fn area_index(columns: u32, p: Place) -> u32
     requires { area_index columns p ≤ 6_000_000 }
     ensures { result ≡ area_index columns p }
 {
@@ -35,14 +35,14 @@ fn area_place(columns: u32, i: u32) -> Place
 }
 
 // A part of a parent in k x k: its number there, its parent's place, its place.
-fn number_in(k: u32, p: Place) -> u32
+pub(crate) fn number_in(k: u32, p: Place) -> u32
     requires { Parted k }
     ensures { result ≡ number_in k p }
 {
     p.row % k * k + p.column % k + 1
 }
 
-fn parent_place(k: u32, p: Place) -> Place
+pub(crate) fn parent_place(k: u32, p: Place) -> Place
     requires { Parted k }
     ensures { result ≡ parent_place k p }
 {
@@ -65,49 +65,19 @@ fn child_place(k: u32, up: Place, number: u32) -> Place
     }
 }
 
-// The index of a place of a scale, by way of its parents, and back. `index` is what the parts so far make, and `each` how many sheets of
-// the scale one of the scale in hand has.
-fn index_of(s: u32, p: Place) -> u32
-    requires { OnGrid s p }
-    ensures { result ≡ index_at (made s) p }
-{
-    let mut t = Scale(s).row();
-    let mut at = p;
-    let mut index: u32 = 0;
-    let mut each: u32 = 1;
-    while t.parent != 0 {
-        let k = t.side;
-        let parts = t.parts;
-        let j = number_in(k, at) - 1;
-        index += each * j;
-        each *= parts;
-        at = parent_place(k, at);
-        t = Scale(t.parent).row();
-    }
-    let top = area_index(t.columns, at);
-    index + each * top
-}
-
+// The place of an index of a scale.
 fn place_in(s: u32, i: u32) -> Place
     requires { Indexed s i }
     ensures { result ≡ place_at (made s) i }
 {
     let t = Scale(s).row();
-    let parent = t.parent;
-    if parent == 0 {
-        return area_place(t.columns, i);
+    match t.parent {
+        None => area_place(t.columns, i),
+        Some(parent) => {
+            let up = place_in(parent, i / t.parts);
+            child_place(t.side, up, i % t.parts + 1)
+        }
     }
-    let parts = t.parts;
-    let up = place_in(parent, i / parts);
-    child_place(t.side, up, i % parts + 1)
-}
-
-// The sheet at a place of a scale.
-pub(crate) fn number_at(s: u32, p: Place) -> u32
-    requires { OnGrid s p }
-    ensures { result ≡ sheet_of s p }
-{
-    Scale(s).first() + index_of(s, p)
 }
 
 // The scale of a sheet: as many scales begin at or before it as its number says. All nine are asked, which takes no guess.
@@ -116,125 +86,95 @@ pub(crate) fn scale_of(n: u32) -> u32
     ensures { result ≡ scale_of n }
 {
     let mut begun: u32 = 0;
-    let mut s: u32 = 1;
-    while s <= Scale::LAST {
+    for s in 1..=Scale::LAST {
         begun += (Scale(s).first() <= n) as u32;
-        s += 1;
     }
     begun
 }
 
-// The scale and the place of a sheet.
-pub(crate) fn spot_of(n: u32) -> Spot
+// The cell of a sheet.
+fn cell_of(n: u32) -> Cell
     requires { is_sheet n ≡ true }
-    ensures { result ≡ spot_of n }
+    ensures scale_value { result.scale ≡ scale_of n }
+    ensures place_value { result.place ≡ place_of n }
 {
-    let s = scale_of(n);
-    let first = Scale(s).first();
-    let p = place_in(s, n - first);
-    Spot { scale: s, place: p }
+    let scale = scale_of(n);
+    Cell {
+        scale,
+        place: place_in(scale, n - Scale(scale).first()),
+    }
 }
 
 // Sheet to scale, row and column.
-pub fn locate(sheet: u32) -> Located
-    ensures { spot_paper result ≡ locate sheet }
+#[tactic(auto, unfolding(crate::specs::Sheet::locate))]
+pub fn locate(sheet: u32) -> Result<Spot, Refusal>
+    ensures { paper result ≡ locate sheet }
 {
     if !is_sheet(sheet) {
-        return Located::Refused(Refusal::NoSheet);
+        return Err(Refusal::NoSheet);
     }
-    Located::At(spot_of(sheet))
-}
-
-fn on_grid(s: u32, p: Place) -> bool
-    ensures { result ≡ on_grid s p }
-{
-    let t = Scale(s).row();
-    (p.row < t.rows) & (p.column < t.columns)
+    let Cell { scale, place } = cell_of(sheet);
+    Ok(Spot { scale, place })
 }
 
 // Scale, row and column to sheet.
-pub fn sheet_on(scale: u32, place: Place) -> Found
-    ensures { sheet_paper result ≡ sheet_on scale place }
+#[tactic(auto, unfolding(crate::specs::Sheet::sheet_on))]
+pub fn sheet_on(scale: u32, place: Place) -> Result<u32, Refusal>
+    ensures { paper result ≡ sheet_on scale place }
 {
-    if !is_scale(scale) {
-        return Found::Refused(Refusal::NoScale);
-    }
-    if !on_grid(scale, place) {
-        return Found::Refused(Refusal::NoSuch);
-    }
-    Found::Sheet(number_at(scale, place))
+    let grid = Grid::of(scale)?;
+    let cell = grid.cell(place)?;
+    Ok(cell.sheet())
 }
 
-// The sheet of a scale under a point of the area.
-fn number_under(s: u32, e: i64, n: i64) -> u32
-    requires { Inside s e n }
-    ensures { result ≡ sheet_under s e n }
+// The sheet of the ninth scale under a point: the number in the parent by hand, and the parent's index. A loop of three turns the compiler
+// leaves as it is.
+fn ninth_under(point: Point) -> u32
+    ensures { result ≡ sheet_under 9 point.e point.n }
 {
-    let row = row_at(s, n);
-    let column = column_at(s, e);
-    number_at(
-        s,
-        Place {
-            row: row,
-            column: column,
-        },
-    )
-}
-
-// The same of the ninth scale: the number in the parent by hand, and the parent's index. A loop of three turns the compiler leaves as it is.
-fn ninth_under(e: i64, n: i64) -> u32
-    requires { Inside 9 e n }
-    ensures { result ≡ sheet_under 9 e n }
-{
-    let row = row_at(9, n);
-    let column = column_at(9, e);
-    let p = Place {
-        row: row,
-        column: column,
+    let cell = Grid { scale: 9 }.cell_at(point);
+    let j = number_in(2, cell.place) - 1;
+    let up = Cell {
+        scale: 8,
+        place: parent_place(2, cell.place),
     };
-    let j = number_in(2, p) - 1;
-    let up = parent_place(2, p);
-    Scale(9).first() + index_of(8, up) * 4 + j
+    Scale(9).first() + up.index() * 4 + j
 }
 
-// Each scale has an arm of its own, so that a compiled program divides by numbers that it knows.
-fn number_by_scale(s: u32, e: i64, n: i64) -> u32
-    requires { Inside s e n }
-    ensures { result ≡ sheet_under s e n }
+// The sheet of a grid under a point. Each scale has an arm of its own, so that a compiled program divides by numbers that it knows.
+fn sheet_under(grid: Grid, point: Point) -> u32
+    ensures { result ≡ sheet_under grid.scale point.e point.n }
 {
-    match s {
-        1 => number_under(1, e, n),
-        2 => number_under(2, e, n),
-        3 => number_under(3, e, n),
-        4 => number_under(4, e, n),
-        5 => number_under(5, e, n),
-        6 => number_under(6, e, n),
-        7 => number_under(7, e, n),
-        8 => number_under(8, e, n),
-        _ => ninth_under(e, n),
+    match grid.scale {
+        1 => Grid { scale: 1 }.cell_at(point).sheet(),
+        2 => Grid { scale: 2 }.cell_at(point).sheet(),
+        3 => Grid { scale: 3 }.cell_at(point).sheet(),
+        4 => Grid { scale: 4 }.cell_at(point).sheet(),
+        5 => Grid { scale: 5 }.cell_at(point).sheet(),
+        6 => Grid { scale: 6 }.cell_at(point).sheet(),
+        7 => Grid { scale: 7 }.cell_at(point).sheet(),
+        8 => Grid { scale: 8 }.cell_at(point).sheet(),
+        _ => ninth_under(point),
     }
 }
 
 // The sheet of a scale in which a point lies.
-pub fn sheet_at(scale: u32, e: i64, n: i64) -> Found
-    ensures { sheet_paper result ≡ sheet_at scale e n }
+#[tactic(auto, unfolding(crate::specs::Sheet::sheet_at))]
+pub fn sheet_at(scale: u32, e: i64, n: i64) -> Result<u32, Refusal>
+    ensures { paper result ≡ sheet_at scale e n }
 {
-    if !is_scale(scale) {
-        return Found::Refused(Refusal::NoScale);
-    }
-    if !in_area(e, n) {
-        return Found::Refused(Refusal::PointOutside);
-    }
-    Found::Sheet(number_by_scale(scale, e, n))
+    let grid = Grid::of(scale)?;
+    let point = Point::of(e, n)?;
+    Ok(sheet_under(grid, point))
 }
 
 // The corners of a sheet: its west, east, south and north edge.
-pub fn corners_of(sheet: u32) -> Corners
-    ensures { corners_paper result ≡ corners_of sheet }
+#[tactic(auto, unfolding(crate::specs::Sheet::corners_of))]
+pub fn corners_of(sheet: u32) -> Result<Edges, Refusal>
+    ensures { paper result ≡ corners_of sheet }
 {
     if !is_sheet(sheet) {
-        return Corners::Refused(Refusal::NoSheet);
+        return Err(Refusal::NoSheet);
     }
-    let at = spot_of(sheet);
-    Corners::Framed(edges_of(at.scale, at.place))
+    Ok(cell_of(sheet).edges())
 }

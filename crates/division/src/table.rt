@@ -5,20 +5,9 @@ ghost use Rattle.division.specs.Sheet.{scale_of};
 
 use crate::sheet::{is_sheet, scale_of};
 
-// What the table has of a scale. Width and height are metres. Parts is the number of parts per parent, side how many of them lie each way
-// (4 and 2 for 2 x 2), and parent the scale that it is made from; all three are 0 where it is made from the area.
-#[derive(Clone, Copy)]
-struct Entry {
-    width: u32,
-    height: u32,
-    rows: u32,
-    columns: u32,
-    parts: u32,
-    side: u32,
-    parent: u32,
-}
-
-// What belongs to a scale: its entry, and its first sheet number.
+// What belongs to a scale. Width and height are metres. Parts is the number of parts per parent, side how many of them lie each way (4 and 2
+// for 2 x 2), and parent the scale that it is made from: there is none, and both are 0, where it is made from the area. First is its first
+// sheet number, the number of sheets of all the scales before it.
 #[derive(Clone, Copy)]
 pub struct Row {
     pub width: u32,
@@ -27,96 +16,108 @@ pub struct Row {
     pub columns: u32,
     pub parts: u32,
     pub side: u32,
-    pub parent: u32,
+    pub parent: Option<u32>,
     pub first: u32,
 }
 
-// The nine entries, that of scale 1 at place 0.
-const TABLE: [Entry; 9] = [
-    Entry {
+// Of a number that is no scale.
+const NO_ROW: Row = Row {
+    width: 0,
+    height: 0,
+    rows: 0,
+    columns: 0,
+    parts: 0,
+    side: 0,
+    parent: None,
+    first: 0,
+};
+
+// The nine rows, that of scale 1 at place 0; their first numbers are worked out from them below.
+const TABLE: [Row; 9] = [
+    Row {
         width: 150_000,
         height: 100_000,
         rows: 6,
         columns: 4,
-        parts: 0,
-        side: 0,
-        parent: 0,
+        ..NO_ROW
     },
-    Entry {
+    Row {
         width: 60_000,
         height: 40_000,
         rows: 15,
         columns: 10,
-        parts: 0,
-        side: 0,
-        parent: 0,
+        ..NO_ROW
     },
-    Entry {
+    Row {
         width: 30_000,
         height: 20_000,
         rows: 30,
         columns: 20,
-        parts: 0,
-        side: 0,
-        parent: 0,
+        ..NO_ROW
     },
-    Entry {
+    Row {
         width: 15_000,
         height: 10_000,
         rows: 60,
         columns: 40,
         parts: 4,
         side: 2,
-        parent: 3,
+        parent: Some(3),
+        ..NO_ROW
     },
-    Entry {
+    Row {
         width: 6_000,
         height: 4_000,
         rows: 150,
         columns: 100,
         parts: 25,
         side: 5,
-        parent: 3,
+        parent: Some(3),
+        ..NO_ROW
     },
-    Entry {
+    Row {
         width: 3_000,
         height: 2_000,
         rows: 300,
         columns: 200,
         parts: 25,
         side: 5,
-        parent: 4,
+        parent: Some(4),
+        ..NO_ROW
     },
-    Entry {
+    Row {
         width: 1_200,
         height: 800,
         rows: 750,
         columns: 500,
         parts: 625,
         side: 25,
-        parent: 3,
+        parent: Some(3),
+        ..NO_ROW
     },
-    Entry {
+    Row {
         width: 600,
         height: 400,
         rows: 1_500,
         columns: 1_000,
         parts: 4,
         side: 2,
-        parent: 7,
+        parent: Some(7),
+        ..NO_ROW
     },
-    Entry {
+    Row {
         width: 300,
         height: 200,
         rows: 3_000,
         columns: 2_000,
         parts: 4,
         side: 2,
-        parent: 8,
+        parent: Some(8),
+        ..NO_ROW
     },
 ];
 
-// A scale's first sheet number is the number of sheets of all the scales before it, so that each begins where the one before it ends.
+// Each scale begins where the one before it ends.
 const FIRST_1: u32 = 0;
 
 const FIRST_2: u32 = FIRST_1 + TABLE[0].rows * TABLE[0].columns;
@@ -135,44 +136,6 @@ const FIRST_8: u32 = FIRST_7 + TABLE[6].rows * TABLE[6].columns;
 
 const FIRST_9: u32 = FIRST_8 + TABLE[7].rows * TABLE[7].columns;
 
-const NO_ROW: Row = Row {
-    width: 0,
-    height: 0,
-    rows: 0,
-    columns: 0,
-    parts: 0,
-    side: 0,
-    parent: 0,
-    first: 0,
-};
-
-impl Entry {
-    // The row of a scale whose first sheet number is `first`.
-    fn with_first(self, first: u32) -> Row
-        ensures { result ≡ record {
-          width = self.width;
-          height = self.height;
-          rows = self.rows;
-          columns = self.columns;
-          parts = self.parts;
-          side = self.side;
-          parent = self.parent;
-          first = first;
-        } }
-    {
-        Row {
-            width: self.width,
-            height: self.height,
-            rows: self.rows,
-            columns: self.columns,
-            parts: self.parts,
-            side: self.side,
-            parent: self.parent,
-            first: first,
-        }
-    }
-}
-
 // A number given as a scale: 1 to 9 are the scales, and of any other number each answer is 0.
 #[derive(Clone, Copy)]
 pub struct Scale(pub u32);
@@ -190,26 +153,52 @@ impl Scale {
         if !is_sheet(sheet) {
             return Scale(0);
         }
-        let s = scale_of(sheet);
-        Scale(s)
+        Scale(scale_of(sheet))
     }
 
     // Arm by arm, so that a compiled program holds the numbers and not the table.
+    #[tactic(auto, unfolding(crate::specs::Table::table, crate::specs::Table::table_row, crate::specs::Table::rows_of, crate::specs::Table::columns_of))]
     pub fn row(self) -> Row
         ensures { result ≡ code_row self.0 }
     {
-        let s = self.0;
         let table = TABLE;
-        match s {
-            1 => table[0].with_first(FIRST_1),
-            2 => table[1].with_first(FIRST_2),
-            3 => table[2].with_first(FIRST_3),
-            4 => table[3].with_first(FIRST_4),
-            5 => table[4].with_first(FIRST_5),
-            6 => table[5].with_first(FIRST_6),
-            7 => table[6].with_first(FIRST_7),
-            8 => table[7].with_first(FIRST_8),
-            9 => table[8].with_first(FIRST_9),
+        match self.0 {
+            1 => Row {
+                first: FIRST_1,
+                ..table[0]
+            },
+            2 => Row {
+                first: FIRST_2,
+                ..table[1]
+            },
+            3 => Row {
+                first: FIRST_3,
+                ..table[2]
+            },
+            4 => Row {
+                first: FIRST_4,
+                ..table[3]
+            },
+            5 => Row {
+                first: FIRST_5,
+                ..table[4]
+            },
+            6 => Row {
+                first: FIRST_6,
+                ..table[5]
+            },
+            7 => Row {
+                first: FIRST_7,
+                ..table[6]
+            },
+            8 => Row {
+                first: FIRST_8,
+                ..table[7]
+            },
+            9 => Row {
+                first: FIRST_9,
+                ..table[8]
+            },
             _ => NO_ROW,
         }
     }
@@ -237,8 +226,7 @@ impl Scale {
     pub fn last(self) -> u32
         ensures { result ≡ last self.0 }
     {
-        let s = self.0;
-        if !is_scale(s) {
+        if !is_scale(self.0) {
             return 0;
         }
         let t = self.row();

@@ -2,10 +2,10 @@
 use mathlib.Core.Path.{◌≡◌, refl}
 use mathlib.Core.Bool.{Bool, true, false, cond}
 use mathlib.Core.List.{List}
-use Prim.Native.Nat.{ℕ, ◌+◌, ◌≤◌, ◌<◌}
+use Prim.Native.Nat.{ℕ, ◌+◌, ◌≤◌, ◌<◌, min}
 use native.Mathlib.Omega.{arith}
-use borrow.Author.Tests.{lt-ltb, le-ltb, eqb-true, eqb-false}
-use lib.Dec.{eqb, ltb}
+use borrow.Author.Tests.{eqb-true, eqb-false}
+use lib.Dec.{eqb}
 use lib.ListN.{length, get_or, drop}
 use Rattle.label.proofs.PieceLaws.{piece, at_mark, past-byte, at-end}
 
@@ -14,18 +14,15 @@ pub data Sought (m : ℕ) (s : List ℕ) (at j : ℕ) : Type 0 where
   found : at < j → at ≡ length (piece m s) → Sought m s at j
   ahead : at ≡ 64 → length (piece m s) ≡ j + length (piece m (drop j s)) → Sought m s at j
 
-pub sought-first : (m : ℕ) (s : List ℕ) → Sought m s 64 0
-sought-first m s = ahead refl (omega arith)
-
 module _ {m : ℕ} {s : List ℕ} (e : length s ≡ 64) {at j : ℕ} where
-  pub sought-next : Sought m s at j → j < 64 → Sought m s (cond (ltb (cond (eqb (get_or s j 0) m) j 64) at) (cond (eqb (get_or s j 0) m) j 64) at) (j + 1)
+  pub sought-next : Sought m s at j → j < 64 → Sought m s (min (cond (eqb (get_or s j 0) m) j 64) at) (j + 1)
   sought-next a h = by (eqb (get_or s j 0) m) refl a
     where
-      by : (t : Bool) → eqb (get_or s j 0) m ≡ t → Sought m s at j → Sought m s (cond (ltb (cond t j 64) at) (cond t j 64) at) (j + 1)
-      by true b (found l p) = rw (le-ltb j at (omega arith)) (found (omega arith) p)
-      by true b (ahead z p) = rw (z, lt-ltb j 64 h) (found (omega arith) (omega (arith, p, at_mark m s j (omega arith) (eqb-true (get_or s j 0) m b))))
-      by false b (found l p) = rw (le-ltb 64 at (omega arith)) (found (omega arith) p)
-      by false b (ahead z p) = rw z (ahead refl (omega (arith, p, past-byte m s j (omega arith) (eqb-false (get_or s j 0) m b))))
+      by : (t : Bool) → eqb (get_or s j 0) m ≡ t → Sought m s at j → Sought m s (min (cond t j 64) at) (j + 1)
+      by true b (found l p) = found (omega arith) (omega (arith, p))
+      by true b (ahead z p) = found (omega arith) (omega (arith, p, at_mark m s j (omega arith) (eqb-true (get_or s j 0) m b)))
+      by false b (found l p) = found (omega arith) (omega (arith, p))
+      by false b (ahead z p) = ahead (omega arith) (omega (arith, p, past-byte m s j (omega arith) (eqb-false (get_or s j 0) m b)))
 
   pub sought-all : Sought m s at j → j ≤ 64 → 64 ≤ j → at ≡ length (piece m s)
   sought-all (found l p) h k = p

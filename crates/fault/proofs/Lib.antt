@@ -1,1 +1,3 @@
 pub mod BlockLaws
+pub mod FirstLaws
+pub mod TailLaws

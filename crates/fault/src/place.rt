@@ -9,33 +9,23 @@ use crate::piece::piece_end;
 pub fn strange_byte(bytes: &[u8]) -> usize
     ensures { result ≡ first_not is_label_byte bytes.now }
 {
-    let mut i: usize = 0;
-    while i < bytes.len() {
-        let b = bytes[i];
-        let plain = ((b'0' <= b) & (b <= b'9')) | (b == b'-');
-        if !plain {
-            return i;
-        }
-        i += 1;
-    }
-    i
+    bytes
+        .iter()
+        .position(|&b| !b.is_ascii_digit() && b != b'-')
+        .unwrap_or(bytes.len())
 }
 
 fn is_field(bytes: &[u8]) -> bool
     ensures { result ≡ is_field bytes.now }
 {
-    let n = bytes.len();
-    if n <= 1 {
-        return n == 1;
-    }
-    bytes[0] != b'0'
+    !matches!(bytes, [] | [b'0', _, ..])
 }
 
 // Where the first field begins that is empty or has a leading zero; one behind the label's end where none is so.
 pub fn faulty_field(bytes: &[u8]) -> usize
     ensures { result ≡ start_of (first_not is_field (split 45 bytes.now)) (split 45 bytes.now) }
 {
-    let mut start: usize = 0;
+    let mut start: usize = 0; // by hand, since the step is a field's length, which no range has
     while start <= bytes.len() {
         let end = start + piece_end(&bytes[start..], b'-');
         if !is_field(&bytes[start..end]) {
@@ -51,13 +41,11 @@ pub fn field_start(bytes: &[u8], k: usize) -> usize
     ensures { result ≡ start_of k (split 45 bytes.now) }
 {
     let mut start: usize = 0;
-    let mut i: usize = 0;
-    while i < k {
+    for _ in 0..k {
         if bytes.len() < start {
             return start;
         }
         start += piece_end(&bytes[start..], b'-') + 1;
-        i += 1;
     }
     start // behind so many fields and their hyphens
 }

@@ -8,33 +8,30 @@ use native.Mathlib.Nat.{mul_assoc, mul_right_comm, eq_of_mul-eq-mul_right}
 use native.Mathlib.Omega.{arith}
 use borrow.Author.Tests.{leb-true, leb-false, lt-ltb, le-ltb}
 use lib.Dec.{T, ltb, eqb, eqb→eq, eqb-suc-zero, not_T}
-use lib.IntN.{ℤ, neg_ℤ}
+use lib.IntN.{ℤ, pos, neg_ℤ, ◌-ℤ◌, +ℤ_idl}
 use lib.Signed.{shr_z}
 use lib.Pow.{pow-add, pow_pos}
-use lib.Ieee.{Float, nan, inf, fin, binary64, up, down, odd, fits, is_nan, of_fields, of_bits, to_bits, ne}
+use lib.Ieee.{Float, nan, inf, fin, binary64, up, down, odd, fits, is_nan, of_fields, of_bits, to_bits}
 use lib.Ieee.Fits.{down_pos}
-use lib.Ieee.Compare.{differs_from_itself, nan_differs}
 use lib.Ieee.Bits.{of_bits-to_bits, cond_no}
 use lib.Ieee.Exact.{HasValue, odd_sign}
+use Rattle.std.specs.Float.{float_is_finite}
 use Rattle.refusal.specs.Paper.{answer, is_answer}
 use Rattle.division.specs.Words.{◌≤?◌, ◌=?◌}
 use Rattle.division.proofs.TestLaws.{le-or-less}
 use Rattle.frame.specs.Exact.{Fraction, signed, exactly, downward, upward}
 use Rattle.frame.specs.Given.{is_minus, exponent_in, mantissa_in, places_in, InReach}
 use Rattle.frame.proofs.FractionLaws.{shr_same, shr-capped}
-use Rattle.frame.proofs.SignLaws.{kept, keep, abs_neg, neg-signed, signed-fits, shifted-small, shifted-kept}
+use Rattle.frame.proofs.SignLaws.{kept, keep, abs_neg, neg-signed, signed-fits, shifted-small, signed-kept, shifted-kept}
 
 -- ---- no number
 
-pub differs : (x : Float) → ne x x ≡ true → false ≡ is_answer (exactly x)
-unfolding exactly
-differs x h = subst (λ (y : Float). false ≡ is_answer (exactly y)) (sym (differs_from_itself x (subst T (sym h) tt))) refl
-
-pub equals : (x : Float) → ne x x ≡ false → T (not (is_nan x))
-unfolding is_nan
-equals nan h = subst (λ (b : Bool). T b) (sym nan_differs ∙ h) tt
-equals (inf s) h = tt
-equals (fin s m e) h = tt
+-- a float is a number exactly if it is finite
+pub finite_told : (x : Float) → float_is_finite x ≡ is_answer (exactly x)
+unfolding float_is_finite exactly
+finite_told nan = refl
+finite_told (inf s) = refl
+finite_told (fin s m e) = refl
 
 pub some_number : (x : Float) → is_answer (exactly x) ≡ true → T (not (is_nan x))
 unfolding is_nan exactly
@@ -183,3 +180,10 @@ module _ (x : Float) (F : fits binary64 x ≡ true) where
         let m = mantissa_in bits * 1_000 in
         let q = shr_z (signed s m) (2 ^ places_in bits) in
         ap answer (ap kept (g ∙ ap neg_ℤ (shifted-kept s m (small bits) e f)) ∙ keep (neg_ℤ q) (rw (abs_neg q) (shifted-small s m (small bits) (2 ^ places_in bits)))) ∙ up_is
+
+    -- where both minuses are taken from 0, as the machine takes them
+    pub up-turned : {over : ℤ} {k : ℕ} → over ≡ signed (is_minus bits) (mantissa_in bits * 1_000) → k ≡ places_in bits → answer (kept (pos 0 -ℤ kept (shr_z (kept (pos 0 -ℤ kept over)) (2 ^ k)))) ≡ upward x
+    up-turned {over} {k} e f =
+        let m = mantissa_in bits * 1_000 in
+        let turned = ap (λ (z : ℤ). pos 0 -ℤ z) (signed-kept (is_minus bits) m (small bits) e) ∙ +ℤ_idl (neg_ℤ (signed (is_minus bits) m)) ∙ neg-signed (is_minus bits) m in
+        up-shifted turned f (+ℤ_idl (neg_ℤ (kept (shr_z (kept (pos 0 -ℤ kept over)) (2 ^ k)))))

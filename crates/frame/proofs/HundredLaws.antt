@@ -41,9 +41,6 @@ module _ {z : ℤ} (h : Hundreds z) where
   pub hundreds-kept : to_z w64 (of_z w64 z) ≡ z
   hundreds-kept = returned z (rw h.is (omega (arith, h.few)))
 
-  pub hundreds-again : Hundreds (to_z w64 (of_z w64 z))
-  hundreds-again = rw hundreds-kept h
-
 -- ---- the corners of a sheet
 
 so : {low high : ℕ} {z : ℤ} → high ≤ 51_700 → goal.Hundreds low high z → Hundreds z

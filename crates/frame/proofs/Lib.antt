@@ -7,4 +7,3 @@ pub mod HundredLaws
 pub mod PointTheorems
 pub mod PointLaws
 pub mod FrameTheorems
-pub mod AnswerLaws

@@ -3,13 +3,12 @@ use mathlib.Core.Path.{◌≡◌, refl, ap, ◌∙◌}
 use mathlib.Core.Bool.{Bool, true, false, ◌&&◌}
 use Prim.Native.Nat.{ℕ}
 use native.Mathlib.Omega.{arith}
-use lib.IntN.{ℤ}
 use lib.Ieee.{Float, binary64, fits}
-use Rattle.refusal.specs.Paper.{answer, refused, is_answer}
+use Rattle.refusal.specs.Paper.{refused, is_answer}
 use Rattle.refusal.proofs.PaperLaws.{some-answer}
 use Rattle.division.specs.Table.{is_scale}
 use Rattle.division.specs.Sheet.{sheet_at}
-use Rattle.frame.specs.Exact.{exactly, floor, ceiling, downward, upward}
+use Rattle.frame.specs.Exact.{exactly, floor, ceiling}
 use Rattle.frame.specs.Metres.{sheet_at_metres}
 use Rattle.frame.specs.Given.{in_reach}
 use Rattle.frame.proofs.FarLaws.{far-east, far-north, out-of-reach}
@@ -34,8 +33,3 @@ out-of-reach-refused s e n F G h k l = by (in_reach e) (in_reach n) refl refl l
         let y = out-of-reach n G k.1 q in
         rounded e n x.1 y.number s ∙ rw (h, far-north (floor x.0) (ceiling y.value) y.up)
     by true true p q r = let z : ◌≡◌ {A = ℕ} 0 1 = cc in absurd (omega arith)
-
--- the rounded values, as the machine keeps them, are asked
-pub rounded-asked : (s : ℕ) (e n : Float) {a b x y : ℤ} → is_scale s ≡ true → a ≡ x → b ≡ y → answer x ≡ downward e → answer y ≡ upward n → sheet_at s a b ≡ sheet_at_metres s e n
-unfolding sheet_at_metres
-rounded-asked s e n h p q E N = rw (p, q, h, ← E, ← N)

@@ -1,15 +1,15 @@
 -- Signed numbers: their size, minus, and the order that it turns round. Assumes nothing.
-use mathlib.Core.Path.{◌≡◌, refl, sym, ap, ◌∙◌, subst}
+use mathlib.Core.Path.{◌≡◌, refl, sym, ap, ◌∙◌}
 use mathlib.Core.Bool.{Bool, true, false, not}
 use Prim.Native.Nat.{ℕ, zero, suc, ◌*◌, ◌^◌, ◌≤◌, ◌<◌, suc-le-suc}
 use native.Mathlib.Nat.{lt_of_le_of_lt, div-le_self, zero-mul}
 use native.Mathlib.Omega.{arith}
 use borrow.Author.Tests.{le-leb, lt-leb}
-use lib.IntN.{ℤ, pos, negsuc, neg_ℤ, nat_abs, ◌-ℤ◌, ◌*ℤ◌, neg_ℤ-neg_ℤ, +ℤ_idl}
+use lib.IntN.{ℤ, pos, negsuc, neg_ℤ, nat_abs, ◌*ℤ◌, neg_ℤ-neg_ℤ}
 use lib.Signed.{le_z, mag, shr_z}
 use mir.Syntax.{w64}
-use mir.Val.{SFits, to_z, of_z}
-use Rattle.division.proofs.TestLaws.{back, returned, same-leb}
+use mir.Val.{to_z, of_z}
+use Rattle.division.proofs.TestLaws.{returned, same-leb}
 use Rattle.frame.specs.Exact.{signed}
 
 -- ---- size
@@ -81,17 +81,3 @@ neg-order (negsuc a) (negsuc b) = same-leb (suc a) (suc b) a b (λ h. omega arit
 
 pub neg-turns : (a b : ℤ) → le_z (neg_ℤ a) b ≡ le_z (neg_ℤ b) a
 neg-turns a b = ap (le_z (neg_ℤ a)) (sym (neg_ℤ-neg_ℤ b)) ∙ neg-order a (neg_ℤ b)
-
--- the machine's, which takes the number from 0
-module _ {z : ℤ} (f : SFits w64 z) (h : nat_abs z < 2 ^ 63) where
-  less : pos 0 -ℤ kept z ≡ neg_ℤ z
-  less = ap (λ (x : ℤ). pos 0 -ℤ x) (back f) ∙ +ℤ_idl (neg_ℤ z)
-
-  neg_small : nat_abs (neg_ℤ z) < 2 ^ 63
-  neg_small = rw (abs_neg z) h
-
-  pub minus-fits : SFits w64 (pos 0 -ℤ kept z)
-  minus-fits = subst (SFits w64) (sym less) (record { sfits = fits (neg_ℤ z) neg_small })
-
-  pub minus_is : kept (pos 0 -ℤ kept z) ≡ neg_ℤ z
-  minus_is = ap kept less ∙ keep (neg_ℤ z) neg_small

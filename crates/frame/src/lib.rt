@@ -6,8 +6,6 @@
 // north edge.
 #![tactic(auto)]
 
-use refusal::Refusal;
-
 pub mod metres;
 mod millimetres;
 
@@ -20,10 +18,4 @@ pub struct Frame {
     pub north: f64,
     pub middle_e: f64,
     pub middle_n: f64,
-}
-
-#[derive(Clone, Copy)]
-pub enum Framed {
-    Metres(Frame),
-    Refused(Refusal),
 }

@@ -5,10 +5,8 @@ use mathlib.Core.Logic.{⊎_elim}
 use Prim.Native.Nat.{ℕ, ◌+◌, ◌*◌, ◌≤◌, ◌<◌}
 use native.Mathlib.Omega.{arith}
 use borrow.Author.Tests.{le-leb, lt-leb, lt-ltb, ne_eqb, leb-true, eqb-true}
-use Rattle.refusal.specs.Paper.{answer, refused}
-use Rattle.refusal.specs.Numbers.{on_paper}
-use Rattle.refusal.specs.declared.Refusal.{Refusal}
-use Rattle.refusal.proofs.PaperLaws.{passed, passed-test, judge-refuses}
+use Rattle.refusal.specs.Paper.{answer}
+use Rattle.refusal.proofs.PaperLaws.{passed, passed-test}
 use Rattle.division.specs.Words.{◌≤?◌, ◌<?◌, ◌=?◌, between}
 use Rattle.division.specs.Table.{first, last}
 use Rattle.division.specs.Sheet.{is_sheet, scale_of}
@@ -109,14 +107,6 @@ module _ (before number : ℕ) where
   unfolding judge
   is-fine f = rw (le-leb number 23_859_521 f.upto, f.product)
 
-  pub too-great : 23_859_521 < number → judge before number ≡ refused before 0
-  unfolding judge
-  too-great l = rw (lt-leb number 23_859_521 l)
-
-  pub lacking : number ≤ 23_859_521 → has_product (scale_of (sheet_in number)) (product_in number) ≡ false → judge before number ≡ refused 24 0
-  unfolding judge
-  lacking l f = rw (le-leb number 23_859_521 l, f)
-
 -- its sheet is one
 pub sheet-is : (number : ℕ) → number ≤ 23_859_521 → is_sheet (sheet_in number) ≡ true
 sheet-is number l = le-leb (sheet_in number) 7_953_173 (omega arith)
@@ -124,23 +114,11 @@ sheet-is number l = le-leb (sheet_in number) 7_953_173 (omega arith)
 -- ---- the code's answers
 
 module _ (sheet product : ℕ) where
-  pub no-sheet : is_sheet sheet ≡ false → holding sheet product ≡ refused 3 0
-  unfolding holding
-  no-sheet e = rw e
-
-  pub no-product : is_sheet sheet ≡ true → has_product (scale_of sheet) product ≡ false → holding sheet product ≡ refused 24 0
-  unfolding holding
-  no-product e f = rw (f, e)
-
   pub held : is_sheet sheet ≡ true → has_product (scale_of sheet) product ≡ true → holding sheet product ≡ answer (holding_of sheet product)
   unfolding holding
   held e f = rw (f, e)
 
 module _ (number : ℕ) where
-  pub parts-refused : (why : Refusal) → judge 3 number ≡ on_paper why → parts_of number ≡ on_paper why
-  unfolding parts_of
-  parts-refused why e = judge-refuses why _ e
-
   pub parted : judge 3 number ≡ answer tt → parts_of number ≡ answer (record { sheet = sheet_in number; product = product_in number })
   unfolding parts_of
   parted e = rw e

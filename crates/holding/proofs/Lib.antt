@@ -1,3 +1,2 @@
-pub mod AnswerLaws
 pub mod HoldingLaws
 pub mod HoldingTheorems

@@ -1,2 +1,1 @@
 pub mod Holding
-pub mod Answers

@@ -7,16 +7,16 @@
 
 ghost use Rattle.std.specs.Prelude.{◌≡◌, ◌≤◌};
 ghost use Rattle.refusal.specs.Paper.{refused};
-ghost use Rattle.refusal.specs.Numbers.{on_paper, judged_paper};
+ghost use Rattle.refusal.specs.Numbers.{on_paper, paper};
 ghost use Rattle.division.specs.Sheet.{scale_of};
 ghost use Rattle.holding.specs.Holding.{has_product, sheet_in, product_in, past, judge, holding, parts_of};
-ghost use Rattle.holding.specs.Answers.{held_paper, parted_paper};
 
 use division::sheet::is_sheet;
 use division::table::Scale;
-use refusal::{Judged, Refusal};
+use refusal::Refusal;
 
-// What a number is judged for: numbers that are given are to be written, and those of a list are being read.
+// What a number is judged for: numbers that are given are to be written, and those of a list are being read. A refusal in its place is no
+// plainer: `judge` would have to ask that it carries no value.
 #[derive(Clone, Copy)]
 pub enum Task {
     Writing,
@@ -24,21 +24,9 @@ pub enum Task {
 }
 
 #[derive(Clone, Copy)]
-pub enum Held {
-    Number(u32),
-    Refused(Refusal),
-}
-
-#[derive(Clone, Copy)]
 pub struct Parts {
     pub sheet: u32,
     pub product: u32,
-}
-
-#[derive(Clone, Copy)]
-pub enum Parted {
-    Into(Parts),
-    Refused(Refusal),
 }
 
 // The last holding's number, if its scale had a second product.
@@ -66,44 +54,45 @@ pub fn past(task: Task) -> Refusal
 }
 
 // What is wrong with a holding's number, if anything.
-pub fn judge(task: Task, number: u32) -> Judged
-    ensures { judged_paper result ≡ judge (past task) number }
+#[tactic(auto, unfolding(crate::specs::Holding::judge))]
+pub fn judge(task: Task, number: u32) -> Result<(), Refusal>
+    ensures { paper result ≡ judge (past task) number }
 {
     if LAST < number {
-        return Judged::Refused(past(task));
+        return Err(past(task));
     }
     if !has_product(number) {
-        return Judged::Refused(Refusal::NoProduct);
+        return Err(Refusal::NoProduct);
     }
-    Judged::Fine
+    Ok(())
 }
 
 // The number of a sheet with a product.
-pub fn holding(sheet: u32, product: u32) -> Held
-    ensures { held_paper result ≡ holding sheet product }
+#[tactic(auto, using(crate::proofs::HoldingLaws::no_third, crate::proofs::HoldingLaws::apart), unfolding(crate::specs::Holding::holding))]
+pub fn holding(sheet: u32, product: u32) -> Result<u32, Refusal>
+    ensures { paper result ≡ holding sheet product }
 {
     if !is_sheet(sheet) {
-        return Held::Refused(Refusal::NoSheet);
+        return Err(Refusal::NoSheet);
     }
     if 2 < product {
-        return Held::Refused(Refusal::NoProduct);
+        return Err(Refusal::NoProduct);
     }
     let number = 3 * sheet + product;
     if !has_product(number) {
-        return Held::Refused(Refusal::NoProduct);
+        return Err(Refusal::NoProduct);
     }
-    Held::Number(number)
+    Ok(number)
 }
 
 // The sheet and the product of a holding.
-pub fn holding_parts(number: u32) -> Parted
-    ensures { parted_paper result ≡ parts_of number }
+#[tactic(auto, unfolding(crate::specs::Holding::parts_of))]
+pub fn holding_parts(number: u32) -> Result<Parts, Refusal>
+    ensures { paper result ≡ parts_of number }
 {
-    match judge(Task::Writing, number) {
-        Judged::Refused(why) => Parted::Refused(why),
-        Judged::Fine => Parted::Into(Parts {
-            sheet: number / 3,
-            product: number % 3,
-        }),
-    }
+    judge(Task::Writing, number)?;
+    Ok(Parts {
+        sheet: number / 3,
+        product: number % 3,
+    })
 }

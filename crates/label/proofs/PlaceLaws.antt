@@ -44,17 +44,9 @@ module _ {A : Type 0} (test : A → Bool) where
 
 -- a loop over the bytes, which has come to place i
 module _ (test : ℕ → Bool) (s : List ℕ) (i : ℕ) where
-  pub first-here : i < length s → test (get_or s i 0) ≡ false → first_not test (drop i s) ≡ 0
-  unfolding first_not
-  first-here h e = rw (drop-cons s i 0 h, e)
-
   pub first_on : i < length s → test (get_or s i 0) ≡ true → first_not test (drop i s) ≡ 1 + first_not test (drop (i + 1) s)
   unfolding first_not
   first_on h e = rw (drop-cons s i 0 h, e, add-one i)
-
-  pub first-end : length s ≤ i → first_not test (drop i s) ≡ 0
-  unfolding first_not
-  first-end h = rw (drop_of_length-le s h)
 
 -- ---- pieces, one after the other
 
@@ -189,9 +181,6 @@ fine-field t e = ⊎_elim last next (le-or-less (length t) (length (piece 45 t))
 pub record Fine (s : List ℕ) (start : ℕ) : Type 0 where
   pub within : start ≤ length s + 1
   pub rest : faulty_at s ≡ start + faulty_at (drop start s)
-
-pub none-fine : (s : List ℕ) → Fine s 0
-none-fine s = record { within = omega arith; rest = omega arith }
 
 module _ {s : List ℕ} {start : ℕ} (w : Fine s start) where
   pub all-fine : length s < start → start ≡ faulty_at s

@@ -19,8 +19,7 @@ pub record Room (s i at room : ℕ) : Type 0 where
   pub indexed : Indexed s i
   pub fits : at + length (behind (index_fields s i)) ≤ room
 
--- a sheet of a scale, and room for the longest label
-pub record SheetRoom (s n room : ℕ) : Type 0 where
+-- a sheet of a scale
+pub record IsSheetOf (s n : ℕ) : Type 0 where
   pub sheet : is_sheet n ≡ true
   pub scale : s ≡ scale_of n
-  pub fits : 16 ≤ room

@@ -81,9 +81,6 @@ module _ (p : ℕ → Bool) where
     pub few : n ≤ i
     pub rest : n + count p (drop i l) ≡ count p l
 
-  pub counting-first : (l : List ℕ) → Counting l 0 0
-  counting-first l = record { upto = omega arith; few = omega arith; rest = zero-add (count p l) }
-
   pub counting-next : {l : List ℕ} {n i : ℕ} → Counting l n i → i < length l → Counting l (n + bool_byte (p (get_or l i 0))) (i + 1)
   counting-next {l} {n} {i} c h =
       let here : count p (drop i l) ≡ bool_byte (p (get_or l i 0)) + count p (drop (i + 1) l) = ap (count p) (from-here l i h) ∙ count-cons (get_or l i 0) (drop (i + 1) l) in

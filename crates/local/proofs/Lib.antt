@@ -4,4 +4,3 @@ pub mod MunicipalityLaws
 pub mod RowLaws
 pub mod NumberLaws
 pub mod LocalTheorems
-pub mod AnswerLaws

@@ -5,45 +5,30 @@ use mathlib.Core.List.{List}
 use Prim.Native.Nat.{ℕ, ◌+◌, ◌%◌, ◌≤◌, ◌<◌}
 use native.Mathlib.Omega.{arith}
 use borrow.Author.Tests.{le-leb, lt-leb, leb-true}
-use Rattle.refusal.specs.declared.Refusal.{Refusal}
-use Rattle.refusal.specs.Paper.{Paper, answer, refused, is_answer, ◌>>◌}
-use Rattle.refusal.specs.Numbers.{on_paper, is_in, judged_paper}
-use Rattle.refusal.specs.declared.Judged.{Judged}
-use Rattle.refusal.specs.declared.Judged.TheVariants as judged
-use Rattle.refusal.proofs.PaperLaws.{no_answer, judge-refuses}
+use Rattle.refusal.specs.Paper.{answer, refused, is_answer}
+use Rattle.refusal.specs.Numbers.{is_in}
 use Rattle.division.specs.Table.{table, table_row, parent_scale, side, parts, first}
 use Rattle.division.specs.Sheet.{is_sheet, scale_of, index_of, place_of, number_in}
 use Rattle.division.proofs.MadeLaws.{number-child, left-few}
-use Rattle.division.proofs.TableLaws.{few-parts, rules}
+use Rattle.division.proofs.TableLaws.{rules}
 use Rattle.division.proofs.NumberLaws.{ranged, indexed}
 use Rattle.division.proofs.FamilyLaws.{deep-place, parted}
 use Rattle.relations.specs.Relations.{parent, child}
 use Rattle.relations.proofs.RelationLaws.{Child, child-deep}
 use Rattle.relations.proofs.RelationTheorems.{child-answered, child-scale, child-is-at, parent-has-child}
 use Rattle.local.specs.declared.Local.{Local}
-use Rattle.local.specs.declared.Local.TheVariants.{One, Two, Three}
 use Rattle.municipality.specs.Municipality.{municipality}
 use Rattle.local.specs.Rows.{by_rows, place_in}
 use Rattle.local.specs.Numbers.{local_to_sheet, part_number, number_of, one_number, two_numbers, three_numbers, numbers_of, sheet_to_local}
 use Rattle.municipality.specs.Given.{OfScale}
-use Rattle.local.specs.Given.{Part, Municipal}
+use Rattle.local.specs.Given.{Part}
 
 -- ---- the list first
-
-module _ (s : List ℕ) {r : Judged} (e : judged_paper r ≡ municipality s) where
-  pub judged-fine : r ≡ judged.Fine → Municipal s
-  judged-fine f = record { is = sym e ∙ ap judged_paper f }
-
-  pub judged-refused : {A : Type 0} {why : Refusal} (next : Paper A) → r ≡ judged.Refused why → on_paper why ≡ (municipality s >> next)
-  judged-refused {why = why} next f = sym (judge-refuses why next (sym e ∙ ap judged_paper f))
 
 -- what is wrong with the list is told before anything of what is asked
 pub list-first : (s : List ℕ) (number value : ℕ) → municipality s ≡ refused number value → (l : Local) (k : ℕ) → (local_to_sheet s l ≡ refused number value) × (sheet_to_local s k ≡ refused number value)
 unfolding local_to_sheet sheet_to_local
 list-first s number value e l k = (rw e refl, rw e refl)
-
-pub then-asked : {A : Type 0} {s : List ℕ} (next : Paper A) → Municipal s → next ≡ (municipality s >> next)
-then-asked next m = rw m.is
 
 -- ---- a part of a sheet
 
@@ -58,12 +43,6 @@ module _ {k : ℕ} (p : Part k) where
   unfolding parent
   has-parent = rw (p.sheet, (rules (ranged k p.sheet).scale).has-parent, le-leb 4 (scale_of k) (omega (arith, p.scale)))
 
-  pub parent-not-refused : (why : Refusal) → on_paper why ≡ parent k → ⊥
-  parent-not-refused why e =
-      let t = ap is_answer e ∙ has-parent in
-      let n = no_answer ℕ why in
-      let z : ◌≡◌ {A = ℕ} 0 1 = cc in absurd (omega arith)
-
   pub index-low : first (scale_of k) ≤ k
   index-low = (ranged k p.sheet).low
 
@@ -72,9 +51,6 @@ module _ {k : ℕ} (p : Part k) where
 
   pub some-parts : 0 < parts (scale_of k)
   some-parts = omega (arith, left)
-
-  pub number-few : index_of k % parts (scale_of k) + 1 ≤ 625
-  number-few = omega (arith, left, few-parts (scale_of k))
 
   -- its number in its parent is what is left of its index
   pub number-left : part_number k ≡ index_of k % parts (scale_of k) + 1
@@ -129,27 +105,15 @@ module _ (s : List ℕ) (k : ℕ) where
   unfolding one_number
   one_outside e = rw (outside s k e)
 
-  pub one-is : is_in s k ≡ true → one_number s k ≡ answer (One (1 + place_in k (by_rows s)))
-  unfolding one_number
-  one-is e = rw (numbered s k e)
-
   module _ {up : ℕ} (p : parent k ≡ answer up) where
     pub two-outside : is_in s up ≡ false → two_numbers s k ≡ refused 6 0
     unfolding two_numbers
     two-outside e = rw (p, outside s up e)
 
-    pub two_is : is_in s up ≡ true → two_numbers s k ≡ answer (Two (1 + place_in up (by_rows s)) (part_number k))
-    unfolding two_numbers
-    two_is e = rw (p, numbered s up e)
-
     module _ {top : ℕ} (q : parent up ≡ answer top) where
       pub three-outside : is_in s top ≡ false → three_numbers s k ≡ refused 6 0
       unfolding three_numbers
       three-outside e = rw (p, q, outside s top e)
-
-      pub three-is : is_in s top ≡ true → three_numbers s k ≡ answer (Three (1 + place_in top (by_rows s)) (part_number up) (part_number k))
-      unfolding three_numbers
-      three-is e = rw (p, q, numbered s top e)
 
 -- ---- the scale of the sheet asked
 

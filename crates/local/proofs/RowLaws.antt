@@ -10,7 +10,7 @@ use native.Mathlib.Omega.{arith}
 use native.Mathlib.Numerals.{add-one}
 use borrow.Author.Tests.{lt-ltb}
 use lib.ListN.{length, get_or, take, set, length-map, length-set}
-use lib.Seq.{take-suc, take_all, take-set-le, get_or-set_same}
+use lib.Seq.{take-suc, take-set-le, get_or-set_same}
 use lib.Arith.{digits_lt, digits_div, digits_mod}
 use Rattle.refusal.specs.Paper.{answer}
 use Rattle.refusal.specs.Numbers.{is_in}
@@ -29,7 +29,7 @@ use Rattle.division.proofs.MemberLaws.{in_mem, mem-in, mem-at, keep-has, has-kee
 use Rattle.division.proofs.CoverTheorems.{in_order}
 use Rattle.local.specs.Rows.{by_rows, place_in}
 use Rattle.municipality.specs.Given.{OfScale}
-use Rattle.local.specs.Given.{Municipal, OneOf, HasNumber, count_below, Reaches, IsNth}
+use Rattle.local.specs.Given.{Municipal, count_below, Reaches, IsNth}
 use Rattle.local.proofs.CountLaws.{map_at, count, count-all, count_map, pick_all}
 use Rattle.local.proofs.OrderLaws.{RisesBy, rises-apart, keep-rises, smaller, rank, nth-key}
 use Rattle.municipality.proofs.JudgeLaws.{seven}
@@ -124,12 +124,6 @@ module _ (s all : List ℕ) (i : ℕ) where
       rw (add-one i)
       (take-suc (set all i x) i 0 (omega (arith, length-set all i x)) ∙ rw (take-set-le i all i x (le_refl i), get_or-set_same all i x 0 room, same) (sym (take-suc (map reading_order s) i 0 n ∙ rw g)))
 
-  pub all-orders : length s ≤ i → i ≤ length s → take i all ≡ take i (map reading_order s) → take (length s) all ≡ map reading_order s
-  all-orders h l same =
-      let e : i ≡ length s = omega arith in
-      let f : take (length s) all ≡ take (length s) (map reading_order s) = rw e at same in
-      f ∙ take_all (length s) (map reading_order s) (omega (arith, length-map s reading_order))
-
 -- ---- a municipality by rows
 
 pub rows-rise : (s : List ℕ) → RisesBy reading_order (by_rows s)
@@ -166,34 +160,21 @@ module _ {s : List ℕ} (m : Municipal s) where
       let e : reading_order (get_or (by_rows s) (n - 1) 0) ≡ v = nth-key reading_order (by_rows s) (rows-rise s) n v (omega (arith, below-is v, t.few)) (omega (arith, below-is (v + 1), t.enough)) in
       order-place (member-scale m (from-rows s (mem-at (by_rows s) (n - 1) (omega (arith, length-rows))))) v e
 
--- a list of orders that begins with a municipality's is long enough for them
-pub orders-fit : (s all : List ℕ) → take (length s) all ≡ map reading_order s → (length s ≤ length all) × (length s ≡ length (take (length s) all))
-orders-fit s all e =
-    let n : length (take (length s) all) ≡ length s = ap length e ∙ length-map s reading_order in
-    ⊎_elim (λ h. (h, sym n)) (λ h. absurd (omega (arith, n, ap length (take_all (length s) all (omega arith))))) (le-or-less (length s) (length all))
-
 -- a sheet's place by the orders
-module _ {k : ℕ} {s : List ℕ} (o : OneOf k s) where
-  one-mem : Memᴰ k s
-  one-mem = in_mem k s o.one
-
-  pub one-scale : OfScale 7 k
-  one-scale = member-scale o.all one-mem
-
-  pub counted-place : {at : ℕ} → at ≡ reading_order k → count (λ x. reading_order x <? at) s ≡ place_in k (by_rows s)
-  counted-place e = rw e (place_is o.all one-mem)
+pub counted-place : (k : ℕ) {s : List ℕ} → Municipal s → is_in s k ≡ true → {at : ℕ} → at ≡ reading_order k → count (λ x. reading_order x <? at) s ≡ place_in k (by_rows s)
+counted-place k {s} m one e = rw e (place_is m (in_mem k s one))
 
 -- and the sheet at a place
-module _ {n : ℕ} {s : List ℕ} (h : HasNumber n s) (all : List ℕ) (e : take (length s) all ≡ map reading_order s) where
+module _ {n : ℕ} {s : List ℕ} (m : Municipal s) (one : 1 ≤ n) (last : n ≤ length s) (all : List ℕ) (e : take (length s) all ≡ map reading_order s) where
   pub reaches : Reaches (take (length s) all) n (rows 7 * columns 7)
   reaches =
-      let low : (k : ℕ) → Memᴰ k s → (reading_order k <? rows 7 * columns 7) ≡ true = λ k m. lt-ltb (reading_order k) (rows 7 * columns 7) (order-in (member-scale h.all m)) in
+      let low : (k : ℕ) → Memᴰ k s → (reading_order k <? rows 7 * columns 7) ≡ true = λ k h. lt-ltb (reading_order k) (rows 7 * columns 7) (order-in (member-scale m h)) in
       let c : count_below (rows 7 * columns 7) (map reading_order s) ≡ length s = count_map (λ x. x <? rows 7 * columns 7) reading_order s ∙ count-all (λ k. reading_order k <? rows 7 * columns 7) s low in
-      record { few = rw e (omega (arith, length-map s reading_order, few h.all)); one = h.one; enough = rw e (omega (arith, c, h.last)) }
+      record { few = rw e (omega (arith, length-map s reading_order, few m)); one = one; enough = rw e (omega (arith, c, last)) }
 
   pub sheet-at : {v : ℕ} → IsNth (take (length s) all) n (rows 7 * columns 7) v → sheet_on 7 (area_place (columns 7) v) ≡ answer (get_or (by_rows s) (n - 1) 0)
   unfolding sheet_on
   sheet-at {v} i =
       let r : v / columns 7 < rows 7 = quot some-columns i.low in
       let c : v % columns 7 < columns 7 = mod-lt v some-columns in
-      rw (lt-ltb (v / columns 7) (rows 7) r, lt-ltb (v % columns 7) (columns 7) c) (ap answer (nth-is h.all n (rows 7 * columns 7) v h.one h.last (rw e at i)))
+      rw (lt-ltb (v / columns 7) (rows 7) r, lt-ltb (v % columns 7) (columns 7) c) (ap answer (nth-is m n (rows 7 * columns 7) v one last (rw e at i)))

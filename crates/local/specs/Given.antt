@@ -1,7 +1,6 @@
 -- What the inner functions take for granted and give: the public ones test it first.
 use Rattle.std.specs.Prelude.{ℕ, ◌+◌, ◌≤◌, ◌<◌, ◌≡◌, true, List, length}
 use Rattle.refusal.specs.Paper.{answer}
-use Rattle.refusal.specs.Numbers.{is_in}
 use Rattle.division.specs.Words.{◌<?◌, keep}
 use Rattle.division.specs.Sheet.{is_sheet, scale_of}
 use Rattle.municipality.specs.Municipality.{municipality}
@@ -13,16 +12,6 @@ pub record Part (k : ℕ) : Type 0 where
 
 pub record Municipal (sheets : List ℕ) : Type 0 where
   pub is : municipality sheets ≡ answer tt
-
--- a municipality, and a sheet of it, or a number of one of its sheets
-pub record OneOf (k : ℕ) (sheets : List ℕ) : Type 0 where
-  pub all : Municipal sheets
-  pub one : is_in sheets k ≡ true
-
-pub record HasNumber (n : ℕ) (sheets : List ℕ) : Type 0 where
-  pub all : Municipal sheets
-  pub one : 1 ≤ n
-  pub last : n ≤ length sheets
 
 -- how many of a list are below a bound
 abbrev pub count_below : ℕ → List ℕ → ℕ

@@ -4,13 +4,9 @@
 // each row from the west, whatever 1:50 000 sheets they lie in. A 1:1 000 sheet adds its number in that sheet, a 1:500 sheet one more.
 #![tactic(auto)]
 
-ghost use Rattle.std.specs.Prelude.{◌≡◌};
-ghost use Rattle.local.specs.Numbers.{from_three, as_three};
-
-use refusal::Refusal;
-
 pub mod numbers;
 mod rows;
+mod sheets;
 
 // The local numbers of a 1:2 000, a 1:1 000 and a 1:500 sheet, that of the 1:2 000 sheet first.
 #[derive(Clone, Copy)]
@@ -18,13 +14,6 @@ pub enum Local {
     One(u32),
     Two(u32, u32),
     Three(u32, u32, u32),
-}
-
-// The local numbers by which a sheet is known.
-#[derive(Clone, Copy)]
-pub enum Known {
-    By(Local),
-    Refused(Refusal),
 }
 
 // Local numbers as three, absent ones 0.
@@ -35,12 +24,15 @@ pub struct Triple {
     pub b: u32,
 }
 
-impl Local {
-    // Of any three numbers, 0 for an absent one. Three that no sheet can have, as a third without a second, become local numbers that none
-    // has.
-    pub fn of(n: u32, a: u32, b: u32) -> Local
-        ensures { result ≡ from_three n a b }
-    {
+// Of any three numbers. Three that no sheet can have, as a third without a second, become local numbers that none has.
+impl From<Triple> for Local {
+    ghost use Rattle.std.specs.Prelude.{◌≡◌};
+    ghost use Rattle.local.specs.Numbers.{from_three};
+
+    ghost from_gives = { λ three local. local ≡ from_three three.n three.a three.b };
+
+    fn from(three: Triple) -> Local {
+        let Triple { n, a, b } = three;
         if b != 0 {
             return Local::Three(n, a, b);
         }
@@ -49,14 +41,19 @@ impl Local {
         }
         Local::One(n)
     }
+}
 
-    pub fn as_three(self) -> Triple
-        ensures { result ≡ as_three self }
-    {
-        match self {
-            Local::One(n) => Triple { n: n, a: 0, b: 0 },
-            Local::Two(n, a) => Triple { n: n, a: a, b: 0 },
-            Local::Three(n, a, b) => Triple { n: n, a: a, b: b },
+impl From<Local> for Triple {
+    ghost use Rattle.std.specs.Prelude.{◌≡◌};
+    ghost use Rattle.local.specs.Numbers.{as_three};
+
+    ghost from_gives = { λ local three. three ≡ as_three local };
+
+    fn from(local: Local) -> Triple {
+        match local {
+            Local::One(n) => Triple { n, a: 0, b: 0 },
+            Local::Two(n, a) => Triple { n, a, b: 0 },
+            Local::Three(n, a, b) => Triple { n, a, b },
         }
     }
 }

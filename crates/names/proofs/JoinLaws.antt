@@ -3,7 +3,7 @@
 use mathlib.Core.Path.{◌≡◌, refl, ap, ◌∙◌}
 use mathlib.Core.List.{List, [], ◌∷◌, ◌++◌}
 use mathlib.Core.Logic.{◌⊎◌, inl, inr}
-use mathlib.Core.Option.{Option, none, some}
+use Rattle.std.specs.Prelude.{Option, Some, None}
 use Prim.Native.Nat.{ℕ, ◌≤◌, ◌<◌}
 use native.Mathlib.Omega.{arith}
 use lib.ListN.{get_or}
@@ -20,11 +20,11 @@ first bytes = get_or bytes 0 0
 -- ---- a byte at the front
 
 module _ (a m n : ℕ) (bytes : List ℕ) where
-  pub joins : {letter : ℕ × ℕ} → single a m n ≡ some letter → joined (a ∷ m ∷ n ∷ bytes) ≡ letter.0 ∷ letter.1 ∷ joined bytes
+  pub joins : {letter : ℕ × ℕ} → single a m n ≡ Some letter → joined (a ∷ m ∷ n ∷ bytes) ≡ letter.0 ∷ letter.1 ∷ joined bytes
   unfolding joined
   joins e = rw e
 
-  pub keeps : single a m n ≡ none → joined (a ∷ m ∷ n ∷ bytes) ≡ a ∷ joined (m ∷ n ∷ bytes)
+  pub keeps : single a m n ≡ None → joined (a ∷ m ∷ n ∷ bytes) ≡ a ∷ joined (m ∷ n ∷ bytes)
   unfolding joined
   keeps e = rw e
 
@@ -40,8 +40,8 @@ both-pass f g bytes h l = passes f (g ∷ bytes) h ∙ ap (on f) (passes g bytes
 
 -- so a first byte is kept, or it is a letter that is joined with its mark
 pub data Begins (a : ℕ) (bytes : List ℕ) : Type 0 where
-  kept : letter_in (a ∷ bytes) ≡ none → joined (a ∷ bytes) ≡ a ∷ joined bytes → Begins a bytes
-  joint : {m n : ℕ} {rest : List ℕ} {letter : ℕ × ℕ} → single a m n ≡ some letter → bytes ≡ m ∷ n ∷ rest → joined (a ∷ bytes) ≡ letter.0 ∷ letter.1 ∷ joined rest → Begins a bytes
+  kept : letter_in (a ∷ bytes) ≡ None → joined (a ∷ bytes) ≡ a ∷ joined bytes → Begins a bytes
+  joint : {m n : ℕ} {rest : List ℕ} {letter : ℕ × ℕ} → single a m n ≡ Some letter → bytes ≡ m ∷ n ∷ rest → joined (a ∷ bytes) ≡ letter.0 ∷ letter.1 ∷ joined rest → Begins a bytes
 
 pub begins : (a : ℕ) (bytes : List ℕ) → Begins a bytes
 unfolding joined
@@ -50,8 +50,8 @@ begins a (m ∷ []) = kept refl refl
 begins a (m ∷ n ∷ bytes) = by (single a m n) refl
   where
     by : (o : Option (ℕ × ℕ)) → single a m n ≡ o → Begins a (m ∷ n ∷ bytes)
-    by none e = kept e (keeps a m n bytes e)
-    by (some l) e = joint e refl (joins a m n bytes e)
+    by None e = kept e (keeps a m n bytes e)
+    by (Some l) e = joint e refl (joins a m n bytes e)
 
 -- ---- what begins with no byte of a mark
 
@@ -80,5 +80,5 @@ module _ (b : ℕ) (bytes : List ℕ) (free : NoMark b) where
   by_itself (a ∷ m ∷ n ∷ front) = by (single a m n) (by_itself front) (by_itself (m ∷ n ∷ front))
     where
       by : (o : Option (ℕ × ℕ)) → joined (front ++ b ∷ bytes) ≡ joined front ++ joined (b ∷ bytes) → joined (m ∷ n ∷ front ++ b ∷ bytes) ≡ joined (m ∷ n ∷ front) ++ joined (b ∷ bytes) → put o (joined (front ++ b ∷ bytes)) (a ∷ joined (m ∷ n ∷ front ++ b ∷ bytes)) ≡ put o (joined front) (a ∷ joined (m ∷ n ∷ front)) ++ joined (b ∷ bytes)
-      by none i j = ap (on a) j
-      by (some s) i j = ap (on s.0) (ap (on s.1) i)
+      by None i j = ap (on a) j
+      by (Some s) i j = ap (on s.0) (ap (on s.1) i)

@@ -4,7 +4,7 @@ use mathlib.Core.Path.{◌≡◌, refl, sym, ap, ap₂, ◌∙◌}
 use mathlib.Core.Bool.{Bool, true, false, false≢true, ◌&&◌, ◌||◌}
 use mathlib.Core.List.{List, [], ◌∷◌, ◌++◌, map, tail, Memᴰ}
 use mathlib.Core.Logic.{◌↔◌, ◌⊎◌, inl, inr, ⊎_elim}
-use mathlib.Core.Option.{Option, none, some}
+use Rattle.std.specs.Prelude.{Option, Some, None}
 use Prim.Native.Nat.{ℕ, ◌≤◌}
 use Prim.Native.Char.{code}
 use native.Mathlib.Omega.{arith}
@@ -23,7 +23,7 @@ use Rattle.names.proofs.JoinLaws.{on, first, joins, keeps, both-pass, Begins, ke
 -- ---- "Joining twice changes nothing"
 
 -- a byte that is kept in front of what is joined stays there
-stays : (a m n : ℕ) (bytes : List ℕ) → single a m n ≡ none → joined (a ∷ joined (m ∷ n ∷ bytes)) ≡ a ∷ joined (joined (m ∷ n ∷ bytes))
+stays : (a m n : ℕ) (bytes : List ℕ) → single a m n ≡ None → joined (a ∷ joined (m ∷ n ∷ bytes)) ≡ a ∷ joined (joined (m ∷ n ∷ bytes))
 stays a m n bytes e = by (begins m (n ∷ bytes)) (begins n bytes)
   where
     by : Begins m (n ∷ bytes) → Begins n bytes → joined (a ∷ joined (m ∷ n ∷ bytes)) ≡ a ∷ joined (joined (m ∷ n ∷ bytes))
@@ -41,8 +41,8 @@ joined-twice (a ∷ m ∷ []) = refl
 joined-twice (a ∷ m ∷ n ∷ bytes) = by (single a m n) refl (joined-twice bytes) (joined-twice (m ∷ n ∷ bytes))
   where
     by : (o : Option (ℕ × ℕ)) → single a m n ≡ o → joined (joined bytes) ≡ joined bytes → joined (joined (m ∷ n ∷ bytes)) ≡ joined (m ∷ n ∷ bytes) → joined (joined (a ∷ m ∷ n ∷ bytes)) ≡ joined (a ∷ m ∷ n ∷ bytes)
-    by none e i j = ap joined (keeps a m n bytes e) ∙ stays a m n bytes e ∙ ap (on a) j ∙ sym (keeps a m n bytes e)
-    by (some s) e i j =
+    by None e i j = ap joined (keeps a m n bytes e) ∙ stays a m n bytes e ∙ ap (on a) j ∙ sym (keeps a m n bytes e)
+    by (Some s) e i j =
         let f = formed a m n e in
         let g = joins a m n bytes e in
         ap joined g ∙ both-pass s.0 s.1 (joined bytes) (omega (arith, f.first.0)) f.second.0 ∙ ap (λ (t : List ℕ). s.0 ∷ s.1 ∷ t) i ∙ sym g
@@ -74,8 +74,8 @@ through x (m ∷ []) = refl
 through x (m ∷ n ∷ bytes) = by (single x m n) refl
   where
     by : (o : Option (ℕ × ℕ)) → single x m n ≡ o → joined (x ∷ joined (m ∷ n ∷ bytes)) ≡ joined (x ∷ m ∷ n ∷ bytes)
-    by none e = stays x m n bytes e ∙ ap (on x) (joined-twice (m ∷ n ∷ bytes)) ∙ sym (keeps x m n bytes e)
-    by (some l) e =
+    by None e = stays x m n bytes e ∙ ap (on x) (joined-twice (m ∷ n ∷ bytes)) ∙ sym (keeps x m n bytes e)
+    by (Some l) e =
         let f = formed x m n e in
         ap (λ (t : List ℕ). joined (x ∷ t)) (both-pass m n bytes (omega (arith, f.leads)) f.follows.0) ∙
         joins x m n (joined bytes) e ∙ ap (λ (t : List ℕ). l.0 ∷ l.1 ∷ t) (joined-twice bytes) ∙ sym (joins x m n bytes e)
@@ -137,8 +137,8 @@ same-tested a b = bytes-tested (joined a) (joined b)
 
 -- each row of the table is found by its bytes
 abbrev is_letter : Option (ℕ × ℕ) → ℕ × ℕ → Bool
-is_letter none s = false
-is_letter (some t) s = t.0 =? s.0 && t.1 =? s.1
+is_letter None s = false
+is_letter (Some t) s = t.0 =? s.0 && t.1 =? s.1
 
 abbrev is_found : Row → Bool
 is_found row = is_letter (single row.letter row.mark.0 row.mark.1) row.single
@@ -147,14 +147,14 @@ all_found : every is_found table ≡ true
 unfolding every table single_in
 all_found = refl
 
-is-letter : (o : Option (ℕ × ℕ)) (s : ℕ × ℕ) → is_letter o s ≡ true → o ≡ some s
-is-letter none s e = let z : ◌≡◌ {A = ℕ} 0 1 = cc in absurd (omega arith)
-is-letter (some t) s e =
+is-letter : (o : Option (ℕ × ℕ)) (s : ℕ × ℕ) → is_letter o s ≡ true → o ≡ Some s
+is-letter None s e = let z : ◌≡◌ {A = ℕ} 0 1 = cc in absurd (omega arith)
+is-letter (Some t) s e =
     let b = both (t.0 =? s.0) (t.1 =? s.1) e in
     rw (eqb-true t.0 s.0 b.0, eqb-true t.1 s.1 b.1)
 
 module _ (row : Row) (listed : Memᴰ row table) (before after : List ℕ) where
-  found : single row.letter row.mark.0 row.mark.1 ≡ some row.single
+  found : single row.letter row.mark.0 row.mark.1 ≡ Some row.single
   found = is-letter _ row.single (each-passes is_found all_found listed)
 
   shape : Formed row.letter row.mark.0 row.mark.1 row.single
@@ -184,8 +184,8 @@ joined-shorter (a ∷ m ∷ []) = omega arith
 joined-shorter (a ∷ m ∷ n ∷ bytes) = by (single a m n) (joined-shorter bytes) (joined-shorter (m ∷ n ∷ bytes))
   where
     by : (o : Option (ℕ × ℕ)) → length (joined bytes) ≤ length bytes → length (joined (m ∷ n ∷ bytes)) ≤ length (m ∷ n ∷ bytes) → length (put o (joined bytes) (a ∷ joined (m ∷ n ∷ bytes))) ≤ length (a ∷ m ∷ n ∷ bytes)
-    by none i j = omega arith
-    by (some s) i j = omega arith
+    by None i j = omega arith
+    by (Some s) i j = omega arith
 
 pub none_left : (row : Row) → Memᴰ row table → (name : List ℕ) → StandsIn (apart row) (joined name) → ⊥
 none_left row listed name s =
@@ -207,8 +207,8 @@ nothing-else (a ∷ m ∷ []) none-stands = refl
 nothing-else (a ∷ m ∷ n ∷ bytes) none-stands = by (single a m n) refl (nothing-else (m ∷ n ∷ bytes) (λ row l s. none-stands row l (further a s)))
   where
     by : (o : Option (ℕ × ℕ)) → single a m n ≡ o → joined (m ∷ n ∷ bytes) ≡ m ∷ n ∷ bytes → joined (a ∷ m ∷ n ∷ bytes) ≡ a ∷ m ∷ n ∷ bytes
-    by none e i = keeps a m n bytes e ∙ ap (on a) i
-    by (some s) e i =
+    by None e i = keeps a m n bytes e ∙ ap (on a) i
+    by (Some s) e i =
         let r = row_of table a m n e in
         absurd (none-stands r.row r.listed (record { before = []; after = bytes; is = rw (r.is-letter, r.is-mark.0, r.is-mark.1) }))
 
@@ -265,8 +265,8 @@ respelt-joined (a ∷ m ∷ []) = unchanged refl
 respelt-joined (a ∷ m ∷ n ∷ bytes) = by (single a m n) refl (respelt-joined bytes) (respelt-joined (m ∷ n ∷ bytes))
   where
     by : (o : Option (ℕ × ℕ)) → single a m n ≡ o → Respelt bytes (joined bytes) → Respelt (m ∷ n ∷ bytes) (joined (m ∷ n ∷ bytes)) → Respelt (a ∷ m ∷ n ∷ bytes) (put o (joined bytes) (a ∷ joined (m ∷ n ∷ bytes)))
-    by none e i j = behind-byte a j
-    by (some s) e i j =
+    by None e i j = behind-byte a j
+    by (Some s) e i j =
         let r = row_of table a m n e in
         let k : Respelt (a ∷ m ∷ n ∷ bytes) (s.0 ∷ s.1 ∷ bytes) =
         letter {a = a ∷ m ∷ n ∷ bytes} {b = s.0 ∷ s.1 ∷ bytes} r.row r.listed [] bytes (rw (r.is-letter, r.is-mark.0, r.is-mark.1)) (rw r.is-single) in

@@ -4,7 +4,8 @@
 use mathlib.Core.Path.{◌≡◌, refl, sym, ap, ◌∙◌}
 use mathlib.Core.Bool.{Bool, true, false, cond, not, ◌&&◌, ◌||◌}
 use mathlib.Core.List.{List, [], ◌∷◌, Memᴰ}
-use mathlib.Core.Option.{Option, none, some, some-injective, none-ne-some}
+use Rattle.std.specs.Prelude.{Option, Some, None}
+use Rattle.std.proofs.lemmas.Option.{none-some, same_Some}
 use Prim.Native.Nat.{ℕ, ◌≤◌, ◌<◌}
 use borrow.Author.Tests.{ltb-true, eqb-true, eq-eqb}
 use Rattle.division.specs.Words.{◌<?◌, ◌=?◌, between}
@@ -29,12 +30,12 @@ pub record RowOf (rows : List Row) (a m n : ℕ) (letter : ℕ × ℕ) : Type 0 
   pub is-mark : (row.mark.0 ≡ m) × (row.mark.1 ≡ n)
   pub is-single : row.single ≡ letter
 
-pub row_of : (rows : List Row) (a m n : ℕ) {letter : ℕ × ℕ} → single_in rows a m n ≡ some letter → RowOf rows a m n letter
+pub row_of : (rows : List Row) (a m n : ℕ) {letter : ℕ × ℕ} → single_in rows a m n ≡ Some letter → RowOf rows a m n letter
 unfolding single_in
-row_of [] a m n {letter} e = absurd (none-ne-some letter e)
+row_of [] a m n {letter} e = absurd (none-some letter e)
 row_of (row ∷ rows) a m n {letter} e = by _ refl e (row_of rows a m n)
   where
-    by : (b : Bool) → (m =? row.mark.0 && (n =? row.mark.1 && a =? row.letter)) ≡ b → cond b (some row.single) (single_in rows a m n) ≡ some letter → (single_in rows a m n ≡ some letter → RowOf rows a m n letter) → RowOf (row ∷ rows) a m n letter
+    by : (b : Bool) → (m =? row.mark.0 && (n =? row.mark.1 && a =? row.letter)) ≡ b → cond b (Some row.single) (single_in rows a m n) ≡ Some letter → (single_in rows a m n ≡ Some letter → RowOf rows a m n letter) → RowOf (row ∷ rows) a m n letter
     by true t e below =
         let l = both (m =? row.mark.0) (n =? row.mark.1 && a =? row.letter) t in
         let k = both (n =? row.mark.1) (a =? row.letter) l.1 in
@@ -43,7 +44,7 @@ row_of (row ∷ rows) a m n {letter} e = by _ refl e (row_of rows a m n)
           listed = Memᴰ.head refl;
           is-letter = sym (eqb-true a row.letter k.1);
           is-mark = (sym (eqb-true m row.mark.0 l.0), sym (eqb-true n row.mark.1 k.0));
-          is-single = some-injective row.single letter e;
+          is-single = same_Some row.single letter e;
         }
     by false t e below =
         let r = below e in
@@ -81,19 +82,19 @@ row-formed row e =
       second = between_in 0x80 0xBF row.single.1 s.1;
     }
 
-pub formed : (a m n : ℕ) {letter : ℕ × ℕ} → single a m n ≡ some letter → Formed a m n letter
+pub formed : (a m n : ℕ) {letter : ℕ × ℕ} → single a m n ≡ Some letter → Formed a m n letter
 formed a m n e =
     let r = row_of table a m n e in
     let f = row-formed r.row (each-passes is_formed all-formed r.listed) in
     rw (r.is-letter, r.is-mark.0, r.is-mark.1, r.is-single) at f
 
 -- three bytes that are of other kinds are not joined
-pub not-joined : (a m n : ℕ) → ((letter : ℕ × ℕ) → Formed a m n letter → ⊥) → single a m n ≡ none
+pub not-joined : (a m n : ℕ) → ((letter : ℕ × ℕ) → Formed a m n letter → ⊥) → single a m n ≡ None
 not-joined a m n otherwise = by (single a m n) refl
   where
-    by : (o : Option (ℕ × ℕ)) → single a m n ≡ o → o ≡ none
-    by none e = refl
-    by (some letter) e = absurd (otherwise letter (formed a m n e))
+    by : (o : Option (ℕ × ℕ)) → single a m n ≡ o → o ≡ None
+    by None e = refl
+    by (Some letter) e = absurd (otherwise letter (formed a m n e))
 
 -- ---- no two rows have the same single letter
 
@@ -112,7 +113,7 @@ one r s e f g =
     let k = both (r.mark.0 =? s.mark.0) (r.mark.1 =? s.mark.1) t.1 in
     (eqb-true r.letter s.letter t.0, eqb-true r.mark.0 s.mark.0 k.0, eqb-true r.mark.1 s.mark.1 k.1)
 
-pub one-row : {a m n b k l : ℕ} {x y : ℕ × ℕ} → single a m n ≡ some x → single b k l ≡ some y → x.0 ≡ y.0 → x.1 ≡ y.1 → (a ≡ b) × (m ≡ k) × (n ≡ l)
+pub one-row : {a m n b k l : ℕ} {x y : ℕ × ℕ} → single a m n ≡ Some x → single b k l ≡ Some y → x.0 ≡ y.0 → x.1 ≡ y.1 → (a ≡ b) × (m ≡ k) × (n ≡ l)
 one-row {a} {m} {n} {b} {k} {l} e f g h =
     let r = row_of table a m n e in
     let s = row_of table b k l f in

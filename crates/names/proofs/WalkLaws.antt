@@ -1,14 +1,14 @@
 -- Two names that are gone through side by side: they are the same exactly if what is left of them is the same, joined. What both begin with,
 -- joined, is passed in both. Assumes nothing.
 use mathlib.Core.Path.{◌≡◌, sym, ap, ◌∙◌}
-use mathlib.Core.Bool.{true, false}
+use mathlib.Core.Bool.{Bool, true, false}
 use mathlib.Core.List.{List, ◌∷◌}
 use mathlib.Core.Logic.{◌↔◌}
-use Prim.Native.Nat.{ℕ, ◌+◌, ◌≤◌, ◌<◌}
+use Prim.Native.Nat.{ℕ, ◌+◌, ◌-◌, ◌≤◌, ◌<◌}
 use native.Mathlib.Numerals.{add-one}
 use native.Mathlib.Omega.{arith}
-use lib.ListN.{length, get_or, drop, length-drop, drop_of_length-le}
-use lib.Seq.{drop-cons, drop-drop, get_or-drop}
+use lib.ListN.{length, get_or, take, drop, length-drop, drop_of_length-le}
+use lib.Seq.{take_all, drop-cons, drop-drop}
 use Rattle.names.specs.Name.{joined, SameName}
 use Rattle.names.specs.Given.{is_apart, Tells}
 use Rattle.names.proofs.NameTheorems.{same-behind}
@@ -29,11 +29,15 @@ pub record Going (a b : List ℕ) (i j : ℕ) : Type 0 where
 turned : {a b : List ℕ} {i j : ℕ} → Going a b i j → Going b a j i
 turned g = record { in-a = g.in_b; in_b = g.in-a; left = (λ s. sym (g.left.0 (sym s)), λ s. sym (g.left.1 (sym s))) }
 
-behind-small : (name : List ℕ) (i : ℕ) → ((k : ℕ) → get_or name k 0 < 256) → (k : ℕ) → get_or (drop i name) k 0 < 256
-behind-small name i small k = rw (get_or-drop i name k 0) (small (i + k))
-
 drop-first : (name : List ℕ) (i : ℕ) → i < length name → drop i name ≡ get_or name i 0 ∷ drop (i + 1) name
 drop-first name i h = drop-cons name i 0 h ∙ rw (add-one i)
+
+-- what is left of two names, as the code lends it
+pub left-apart : (a b : List ℕ) (i j : ℕ) {r : Bool} → r ≡ is_apart (take (length a - i) (drop i a)) (take (length b - j) (drop j b)) → r ≡ is_apart (drop i a) (drop j b)
+left-apart a b i j e = e ∙ rw (rest a i, rest b j)
+  where
+    rest : (l : List ℕ) (i : ℕ) → take (length l - i) (drop i l) ≡ drop i l
+    rest l i = take_all (length l - i) (drop i l) (omega (arith, length-drop i l))
 
 module _ {a b : List ℕ} {i j : ℕ} (g : Going a b i j) where
   -- both names have come to their end, or only the second
@@ -67,12 +71,12 @@ module _ {a b : List ℕ} {i j : ℕ} (g : Going a b i j) where
         left = (λ s. ap (drop 2) (sym x ∙ g.left.0 s ∙ y), λ s. g.left.1 (x ∙ ap (λ (t : List ℕ). f ∷ c ∷ t) s ∙ sym y));
       }
 
-  pub apart-in-first : ((k : ℕ) → get_or b k 0 < 256) → is_apart (drop i a) (drop j b) ≡ true → Going a b (i + 3) (j + 2)
-  apart-in-first small e =
+  pub apart-in-first : is_apart (drop i a) (drop j b) ≡ true → Going a b (i + 3) (j + 2)
+  apart-in-first e =
       let p = is-apart (drop i a) (drop j b) e in
-      let o = front (drop i a) p.0 in
-      let t = pair-on o (drop j b) (behind-small b j small) p.1 in
-      letter-passed o.letter.0 o.letter.1 (long o) t.0 (joined-on o) t.1
+      let o = front (drop i a) p.1 in
+      let t = pair-on o (drop j b) p.2 in
+      letter-passed p.0.0 p.0.1 (long o) t.0 (joined-on o) t.1
 
   pub differ : i < length a → j < length b → (get_or a i 0 ≡ get_or b j 0 → ⊥) → is_apart (drop i a) (drop j b) ≡ false → is_apart (drop j b) (drop i a) ≡ false → Tells false (SameName a b)
   differ h l n e f =
@@ -87,5 +91,5 @@ module _ {a b : List ℕ} {i j : ℕ} (g : Going a b i j) where
   pub first_ends : length a ≤ i → j < length b → Tells false (SameName a b)
   first_ends h l = fails (λ s. longer (turned g) l h (sym s))
 
-  pub apart-in-second : ((k : ℕ) → get_or a k 0 < 256) → is_apart (drop j b) (drop i a) ≡ true → Going a b (i + 2) (j + 3)
-  apart-in-second small e = turned (apart-in-first (turned g) small e)
+  pub apart-in-second : is_apart (drop j b) (drop i a) ≡ true → Going a b (i + 2) (j + 3)
+  apart-in-second e = turned (apart-in-first (turned g) e)

@@ -1,7 +1,7 @@
 -- When two names are the same. Document 02, c): "Document 01's rule that names are the same when their bytes are the same was wrong."
 use Rattle.std.specs.Prelude.{ℕ, ◌≡◌, Bool, true, false, cond, ◌&&◌, List, [], ◌∷◌}
 use Prim.Native.Char.{code}
-use Rattle.std.proofs.Math.Option.{Option, none, some}
+use Rattle.std.specs.Prelude.{Option, Some, None}
 use Rattle.division.specs.Words.{◌=?◌}
 
 -- a letter, of one byte; the mark behind it and the single letter that they are joined into, of two bytes each
@@ -29,16 +29,16 @@ table =
 
 -- the single letter of three bytes, by the first of these rows whose mark and letter they are
 unfoldable pub single_in : List Row → ℕ → ℕ → ℕ → Option (ℕ × ℕ)
-single_in [] a m n = none
-single_in (row ∷ rows) a m n = cond (m =? row.mark.0 && (n =? row.mark.1 && a =? row.letter)) (some row.single) (single_in rows a m n)
+single_in [] a m n = None
+single_in (row ∷ rows) a m n = cond (m =? row.mark.0 && (n =? row.mark.1 && a =? row.letter)) (Some row.single) (single_in rows a m n)
 
 abbrev pub single : ℕ → ℕ → ℕ → Option (ℕ × ℕ)
 single a m n = single_in table a m n
 
 -- a single letter in front of what is joined behind it, or, where there is none, the bytes kept: "Nothing else is joined"
 abbrev pub put : Option (ℕ × ℕ) → List ℕ → List ℕ → List ℕ
-put (some letter) behind kept = letter.0 ∷ letter.1 ∷ behind
-put none behind kept = kept
+put (Some letter) behind kept = letter.0 ∷ letter.1 ∷ behind
+put None behind kept = kept
 
 -- from left to right
 unfoldable pub joined : List ℕ → List ℕ

@@ -1,87 +1,61 @@
 // When two names are the same (document 02, c): when their bytes are equal after each of eight letters that is typed with its mark behind
 // it is joined into the single letter.
-//
-// A single letter is handed on as one number, its first byte times 256 and its second.
 #![tactic(auto)]
 
-ghost use Rattle.std.specs.Prelude.{◌≤◌, ◌≡◌, length, drop};
+ghost use Rattle.std.specs.Prelude.{◌≡◌};
 ghost use Rattle.names.specs.Name.{single, SameName};
-ghost use Rattle.names.specs.Given.{number, letter_in, pair_in, is_apart, Tells};
+ghost use Rattle.names.specs.Given.{letter_in, pair_in, is_apart, Tells};
 
-// The single letter of a letter with CC 8C behind it; 0 where there is none.
-fn with_caron(letter: u8) -> u16
-    ensures { result ≡ number (single letter 0xCC 0x8C) }
+// The single letter of a letter with a mark behind it, CC and another byte, if the two are joined: its two bytes.
+#[tactic(auto, unfolding(crate::specs::Name::table, crate::specs::Name::single_in))]
+fn with_mark(letter: u8, second: u8) -> Option<(u8, u8)>
+    ensures { result ≡ single letter 0xCC second }
 {
-    match letter {
-        b'c' => 0xC48D,
-        b's' => 0xC5A1,
-        b'z' => 0xC5BE,
-        b'C' => 0xC48C,
-        b'S' => 0xC5A0,
-        b'Z' => 0xC5BD,
-        _ => 0,
+    match (second, letter) {
+        (0x8C, b'c') => Some((0xC4, 0x8D)),
+        (0x8C, b's') => Some((0xC5, 0xA1)),
+        (0x8C, b'z') => Some((0xC5, 0xBE)),
+        (0x8C, b'C') => Some((0xC4, 0x8C)),
+        (0x8C, b'S') => Some((0xC5, 0xA0)),
+        (0x8C, b'Z') => Some((0xC5, 0xBD)),
+        (0x81, b'c') => Some((0xC4, 0x87)),
+        (0x81, b'C') => Some((0xC4, 0x86)),
+        _ => None,
     }
 }
 
-// That of a letter with CC 81 behind it.
-fn with_acute(letter: u8) -> u16
-    ensures { result ≡ number (single letter 0xCC 0x81) }
+// That of the first three bytes.
+#[tactic(auto, unfolding(crate::specs::Name::table, crate::specs::Name::single_in))]
+fn letter_in(name: &[u8]) -> Option<(u8, u8)>
+    ensures { result ≡ letter_in name.now }
 {
-    match letter {
-        b'c' => 0xC487,
-        b'C' => 0xC486,
-        _ => 0,
+    match name {
+        [letter, 0xCC, second, ..] => with_mark(*letter, *second),
+        _ => None,
     }
 }
 
-// That of a letter with CC and another byte behind it.
-fn with_mark(letter: u8, second: u8) -> u16
-    ensures { result ≡ number (single letter 0xCC second) }
+// The first two bytes, if there are two.
+fn pair_in(name: &[u8]) -> Option<(u8, u8)>
+    ensures { result ≡ pair_in name.now }
 {
-    if second == 0x8C {
-        return with_caron(letter);
+    match name {
+        [first, second, ..] => Some((*first, *second)),
+        _ => None,
     }
-    if second == 0x81 {
-        return with_acute(letter);
-    }
-    0
 }
 
-// That of the three bytes at a place.
-fn letter_at(name: &[u8], i: usize) -> u16
-    requires { i ≤ length name.now }
-    ensures { result ≡ number (letter_in (drop i name.now)) }
+// Whether the first name begins with a letter and its mark, and the second with the single letter.
+fn is_apart(a: &[u8], b: &[u8]) -> bool
+    ensures { result ≡ is_apart a.now b.now }
 {
-    if name.len() - i < 3 {
-        return 0;
-    }
-    if name[i + 1] != 0xCC {
-        return 0;
-    }
-    with_mark(name[i], name[i + 2])
-}
-
-// The two bytes at a place, as such a number; 0 where there are not two.
-fn pair_at(name: &[u8], i: usize) -> u16
-    requires { i ≤ length name.now }
-    ensures { result ≡ pair_in (drop i name.now) }
-{
-    if name.len() - i < 2 {
-        return 0;
-    }
-    name[i] as u16 * 256 + name[i + 1] as u16
-}
-
-// Whether the first name has a letter with its mark at a place, and the second the single letter.
-fn is_apart(a: &[u8], i: usize, b: &[u8], j: usize) -> bool
-    requires { (i ≤ length a.now) × (j ≤ length b.now) }
-    ensures { result ≡ is_apart (drop i a.now) (drop j b.now) }
-{
-    let p = letter_at(a, i);
-    if p == 0 {
+    let Some(letter) = letter_in(a) else {
         return false;
+    };
+    match pair_in(b) {
+        Some(pair) => letter == pair,
+        None => false,
     }
-    p == pair_at(b, j)
 }
 
 // Whether two names are the same. Bytes that agree are passed, whatever they are part of; where two differ, one name must have a letter with
@@ -89,6 +63,7 @@ fn is_apart(a: &[u8], i: usize, b: &[u8], j: usize) -> bool
 pub fn same_name(a: &[u8], b: &[u8]) -> bool
     ensures { Tells result (SameName a.now b.now) }
 {
+    // two places by hand, since the names advance by different steps
     let mut i: usize = 0;
     let mut j: usize = 0;
     while i < a.len() {
@@ -98,10 +73,10 @@ pub fn same_name(a: &[u8], b: &[u8]) -> bool
         if a[i] == b[j] {
             i += 1;
             j += 1;
-        } else if is_apart(a, i, b, j) {
+        } else if is_apart(&a[i..], &b[j..]) {
             i += 3;
             j += 2;
-        } else if is_apart(b, j, a, i) {
+        } else if is_apart(&b[j..], &a[i..]) {
             i += 2;
             j += 3;
         } else {

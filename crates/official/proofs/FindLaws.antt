@@ -2,7 +2,8 @@
 use mathlib.Core.Path.{◌≡◌, refl, sym, ap, ◌∙◌}
 use mathlib.Core.Bool.{Bool, true, false, false≢true, cond}
 use mathlib.Core.List.{List, [], ◌∷◌}
-use mathlib.Core.Option.{Option, none, some, some-injective, none-ne-some, some-ne-none}
+use Rattle.std.specs.Prelude.{Option, Some, None}
+use Rattle.std.proofs.lemmas.Option.{none-some, same_Some}
 use Prim.Native.Nat.{ℕ, zero, suc, ◌+◌, ◌≤◌, ◌<◌}
 use native.Mathlib.Numerals.{add-one}
 use native.Mathlib.Omega.{arith}
@@ -18,40 +19,40 @@ module _ {A : Type 0} (test : A → Bool) (d : A) where
     pub is : get_or xs place d ≡ x
     pub passes : test x ≡ true
 
-  pub found-stands : (xs : List A) {x : A} → find test xs ≡ some x → Stands xs x
+  pub found-stands : (xs : List A) {x : A} → find test xs ≡ Some x → Stands xs x
   unfolding find
-  found-stands [] {x} e = absurd (none-ne-some x e)
+  found-stands [] {x} e = absurd (none-some x e)
   found-stands (y ∷ xs) {x} e = by (test y) refl e (found-stands xs)
     where
-      by : (t : Bool) → test y ≡ t → cond t (some y) (find test xs) ≡ some x → (find test xs ≡ some x → Stands xs x) → Stands (y ∷ xs) x
-      by true t e behind = let i = some-injective y x e in record { place = 0; within = omega arith; is = i; passes = ap test (sym i) ∙ t }
+      by : (t : Bool) → test y ≡ t → cond t (Some y) (find test xs) ≡ Some x → (find test xs ≡ Some x → Stands xs x) → Stands (y ∷ xs) x
+      by true t e behind = let i = same_Some y x e in record { place = 0; within = omega arith; is = i; passes = ap test (sym i) ∙ t }
       by false t e behind = let s = behind e in record { place = suc s.place; within = omega (arith, s.within); is = s.is; passes = s.passes }
 
-  pub none_passes : (xs : List A) → find test xs ≡ none → (i : ℕ) → i < length xs → test (get_or xs i d) ≡ false
+  pub none_passes : (xs : List A) → find test xs ≡ None → (i : ℕ) → i < length xs → test (get_or xs i d) ≡ false
   unfolding find
   none_passes [] e i h = absurd (omega arith)
   none_passes (y ∷ xs) e i h = by (test y) refl e (none_passes xs) i h
     where
-      by : (t : Bool) → test y ≡ t → cond t (some y) (find test xs) ≡ none → (find test xs ≡ none → (i : ℕ) → i < length xs → test (get_or xs i d) ≡ false) → (i : ℕ) → i < length (y ∷ xs) → test (get_or (y ∷ xs) i d) ≡ false
-      by true t e behind i h = absurd (some-ne-none y e)
+      by : (t : Bool) → test y ≡ t → cond t (Some y) (find test xs) ≡ None → (find test xs ≡ None → (i : ℕ) → i < length xs → test (get_or xs i d) ≡ false) → (i : ℕ) → i < length (y ∷ xs) → test (get_or (y ∷ xs) i d) ≡ false
+      by true t e behind i h = absurd (none-some y (sym e))
       by false t e behind zero h = t
       by false t e behind (suc i) h = behind e i (omega arith)
 
   -- what alone passes is found
-  pub alone-found : (xs : List A) (i : ℕ) → i < length xs → test (get_or xs i d) ≡ true → ((j : ℕ) → j < length xs → test (get_or xs j d) ≡ true → j ≡ i) → find test xs ≡ some (get_or xs i d)
+  pub alone-found : (xs : List A) (i : ℕ) → i < length xs → test (get_or xs i d) ≡ true → ((j : ℕ) → j < length xs → test (get_or xs j d) ≡ true → j ≡ i) → find test xs ≡ Some (get_or xs i d)
   alone-found xs i h e alone = by (find test xs) refl
     where
-      by : (o : Option A) → find test xs ≡ o → o ≡ some (get_or xs i d)
-      by none f = absurd (false≢true (sym (none_passes xs f i h) ∙ e))
-      by (some x) f =
+      by : (o : Option A) → find test xs ≡ o → o ≡ Some (get_or xs i d)
+      by None f = absurd (false≢true (sym (none_passes xs f i h) ∙ e))
+      by (Some x) f =
           let s = found-stands xs f in
           let j = alone s.place s.within (ap test s.is ∙ s.passes) in
-          ap some (sym s.is ∙ ap (λ (k : ℕ). get_or xs k d) j)
+          ap Some (sym s.is ∙ ap (λ (k : ℕ). get_or xs k d) j)
 
   -- ---- a loop over the list, which has come to place i
 
   module _ (xs : List A) (i : ℕ) where
-    pub found_here : i < length xs → test (get_or xs i d) ≡ true → find test (drop i xs) ≡ some (get_or xs i d)
+    pub found_here : i < length xs → test (get_or xs i d) ≡ true → find test (drop i xs) ≡ Some (get_or xs i d)
     unfolding find
     found_here h e = rw (drop-cons xs i d h, e)
 
@@ -59,6 +60,6 @@ module _ {A : Type 0} (test : A → Bool) (d : A) where
     unfolding find
     found-behind h e = rw (drop-cons xs i d h, e, add-one i)
 
-    pub found_nowhere : length xs ≤ i → find test (drop i xs) ≡ none
+    pub found_nowhere : length xs ≤ i → find test (drop i xs) ≡ None
     unfolding find
     found_nowhere h = rw (drop_of_length-le xs h)

@@ -5,4 +5,3 @@ pub mod ListLaws
 pub mod LookupLaws
 pub mod VerdictLaws
 pub mod VerdictTheorems
-pub mod AnswerLaws

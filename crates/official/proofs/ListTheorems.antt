@@ -2,7 +2,8 @@
 use mathlib.Core.Path.{◌≡◌, refl, sym, ap, ◌∙◌}
 use mathlib.Core.Bool.{Bool, true, false, false≢true, not, ◌&&◌, ◌||◌}
 use mathlib.Core.List.{List}
-use mathlib.Core.Option.{Option, none, some, some-injective, none-ne-some}
+use Rattle.std.specs.Prelude.{Option, Some, None}
+use Rattle.std.proofs.lemmas.Option.{none-some, same_Some}
 use Prim.Native.Nat.{ℕ, ◌≤◌, ◌<◌}
 use native.Mathlib.Omega.{arith}
 use borrow.Author.Tests.{eqb-true}
@@ -33,17 +34,17 @@ at_each test e i h = each-passes test e (has-from 0 15 i (omega arith) (omega ar
 
 -- ---- each label is of a 1:250 000 sheet, and each name could stand in a line
 
-pub from-answered : (p : Paper ℕ) {n : ℕ} → answered p ≡ some n → p ≡ answer n
-from-answered (answer m) {n} e = ap answer (some-injective m n e)
-from-answered (refused number value) {n} e = absurd (none-ne-some n e)
+pub from-answered : (p : Paper ℕ) {n : ℕ} → answered p ≡ Some n → p ≡ answer n
+from-answered (answer m) {n} e = ap answer (same_Some m n e)
+from-answered (refused number value) {n} e = absurd (none-some n e)
 
-pub is_some : (o : Option ℕ) {n : ℕ} → (o is? n) ≡ true → o ≡ some n
-is_some none e = absurd (false≢true e)
-is_some (some m) {n} e = ap some (eqb-true m n e)
+pub is_some : (o : Option ℕ) {n : ℕ} → (o is? n) ≡ true → o ≡ Some n
+is_some None e = absurd (false≢true e)
+is_some (Some m) {n} e = ap Some (eqb-true m n e)
 
 abbrev is_sound : Row → Option ℕ → Bool
-is_sound row none = false
-is_sound row (some n) =
+is_sound row None = false
+is_sound row (Some n) =
     is250000 n && (is_name row.name && ((answered (read_line (line_of row)) is? n) && (has_name (line_of row) && same_bytes (name_in (line_of row)) row.name)))
 
 all_sound : every (λ i. is_sound (row_at i) (sheet_in (row_at i))) (from 0 15) ≡ true

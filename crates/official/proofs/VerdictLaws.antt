@@ -2,7 +2,7 @@
 use mathlib.Core.Path.{◌≡◌}
 use mathlib.Core.Bool.{Bool, true, cond}
 use mathlib.Core.List.{List}
-use mathlib.Core.Option.{none, some}
+use Rattle.std.specs.Prelude.{Some, None}
 use Prim.Native.Nat.{ℕ, ◌<◌}
 use native.Mathlib.Omega.{arith}
 use borrow.Author.Tests.{lt-ltb, le-ltb}
@@ -16,11 +16,11 @@ use Rattle.official.specs.Lookup.{name_of, is250000}
 use Rattle.official.specs.Verdict.{agrees, differs, not_listed, check_at}
 
 module _ (line : List ℕ) (n : ℕ) (scale : is250000 n ≡ true) where
-  pub nothing-listed : name_of n ≡ none → answer not_listed ≡ check_at line n
+  pub nothing-listed : name_of n ≡ None → answer not_listed ≡ check_at line n
   unfolding check_at
   nothing-listed e = rw (scale, e)
 
-  module _ {name : List ℕ} (listed : name_of n ≡ some name) where
+  module _ {name : List ℕ} (listed : name_of n ≡ Some name) where
     pub bare-differs : length (label_in line) ≡ length line → answer differs ≡ check_at line n
     unfolding check_at
     bare-differs e = rw (scale, listed, le-ltb (length (label_in line)) (length line) (omega arith))

@@ -3,7 +3,7 @@ use mathlib.Core.Path.{◌≡◌, refl, ap, ◌∙◌}
 use mathlib.Core.Bool.{Bool, true, false, false≢true, cond, ◌&&◌}
 use mathlib.Core.List.{List}
 use mathlib.Core.Logic.{◌↔◌}
-use mathlib.Core.Option.{Option, none, some}
+use Rattle.std.specs.Prelude.{Option, Some, None}
 use Prim.Native.Nat.{ℕ, ◌<◌}
 use native.Mathlib.Omega.{arith}
 use borrow.Author.Tests.{eqb-true, eq-eqb, ne_eqb}
@@ -18,7 +18,9 @@ use Rattle.names.specs.Given.{Tells}
 use Rattle.names.proofs.NameTheorems.{tells-true, tells-false, same-tested}
 use Rattle.catalogue.specs.Line.{has_name, name_in, read_line}
 use Rattle.official.specs.Lookup.{name_of, is250000}
-use Rattle.official.specs.Verdict.{Verdict, agrees, differs, not_listed, verdict, check_at, check_line}
+use Rattle.official.specs.declared.verdict.Verdict.{Verdict}
+use Rattle.official.specs.declared.verdict.Verdict.TheVariants as said
+use Rattle.official.specs.Verdict.{agrees, differs, not_listed, verdict, check_at, check_line}
 use Rattle.official.specs.Theorems.{row_at, line_of, Agrees, Differs, NotListed}
 use Rattle.official.proofs.ListTheorems.{sound}
 use Rattle.official.proofs.LookupTheorems.{listed-iff, named-scale}
@@ -67,9 +69,9 @@ judged line v e =
 -- ---- the three are different
 
 abbrev number : Verdict → ℕ
-number agrees = 0
-number differs = 1
-number not_listed = 2
+number said.Agrees = 0
+number said.Differs = 1
+number said.NotListed = 2
 
 agrees-true : (t : Bool) → cond t agrees differs ≡ agrees → t ≡ true
 agrees-true true e = refl
@@ -101,17 +103,17 @@ module _ (line : List ℕ) where
     sheet : ℕ
     read : read_line line ≡ answer sheet
     name : List ℕ
-    listed : name_of sheet ≡ some name
+    listed : name_of sheet ≡ Some name
     is : cond (has name) agrees differs ≡ v
 
   is-listed : (v : Verdict) → (not_listed ≡ v → ⊥) → check_line line ≡ answer v → Listed v
   is-listed v other e = let j = judged line v e in by j (name_of j.sheet) refl j.is
     where
       by : (j : Judged line v) (o : Option (List ℕ)) → name_of j.sheet ≡ o → verdict o line ≡ v → Listed v
-      by j none f g = absurd (other g)
-      by j (some name) f g = record { sheet = j.sheet; read = j.read; name = name; listed = f; is = g }
+      by j None f g = absurd (other g)
+      by j (Some name) f g = record { sheet = j.sheet; read = j.read; name = name; listed = f; is = g }
 
-  listed-gets : {t : Bool} (sheet : ℕ) (name : List ℕ) → read_line line ≡ answer sheet → name_of sheet ≡ some name → has name ≡ t → check_line line ≡ answer (cond t agrees differs)
+  listed-gets : {t : Bool} (sheet : ℕ) (name : List ℕ) → read_line line ≡ answer sheet → name_of sheet ≡ Some name → has name ≡ t → check_line line ≡ answer (cond t agrees differs)
   listed-gets sheet name e f g = gets-verdict line sheet e (named-scale sheet name f) ∙ rw (f, g)
 
   pub agrees-iff : (check_line line ≡ answer agrees) ↔ Agrees line
@@ -136,8 +138,8 @@ module _ (line : List ℕ) where
   not-listed-iff = (λ e. let j = judged line not_listed e in by j (name_of j.sheet) refl j.is, λ n. gets-verdict line n.sheet n.read n.scale ∙ rw n.listed)
     where
       by : (j : Judged line not_listed) (o : Option (List ℕ)) → name_of j.sheet ≡ o → verdict o line ≡ not_listed → NotListed line
-      by j none f g = record { sheet = j.sheet; read = j.read; scale = j.scale; listed = f }
-      by j (some name) f g = absurd (never-not-listed (has name) g)
+      by j None f g = record { sheet = j.sheet; read = j.read; scale = j.scale; listed = f }
+      by j (Some name) f g = absurd (never-not-listed (has name) g)
 
 -- ---- the list's own lines agree
 

@@ -1,6 +1,6 @@
 -- Sheet to name, and name to sheet. Document 02, d).
 use Rattle.std.specs.Prelude.{ℕ, Bool, false, cond, List, [], ◌∷◌, length}
-use Rattle.std.proofs.Math.Option.{Option, none, some, map, get_or, bind}
+use Rattle.std.specs.Prelude.{Option, Some, None, option_map, option_and_then, unwrap_or}
 use Rattle.refusal.specs.Paper.{Paper, answer, refused, refuse◌unless◌, ◌>>◌, ◌>>=◌, laid}
 use Rattle.division.specs.Words.{◌=?◌}
 use Rattle.division.specs.Sheet.{is_sheet, scale_of}
@@ -10,13 +10,13 @@ use Rattle.official.specs.List.{Row, official}
 
 -- the first of a list that passes a test, or none
 unfoldable pub find : {A : Type 0} → (A → Bool) → List A → Option A
-find test [] = none
-find test (x ∷ xs) = cond (test x) (some x) (find test xs)
+find test [] = None
+find test (x ∷ xs) = cond (test x) (Some x) (find test xs)
 
 -- the answer of a question, none where it is refused
 abbrev pub answered : Paper ℕ → Option ℕ
-answered (answer n) = some n
-answered (refused number value) = none
+answered (answer n) = Some n
+answered (refused number value) = None
 
 -- the sheet that a row's label names
 unfoldable pub sheet_in : Row → Option ℕ
@@ -24,16 +24,16 @@ sheet_in row = answered (read_label row.label)
 
 infix 50 ◌is?◌
 abbrev pub ◌is?◌ : Option ℕ → ℕ → Bool
-none is? n = false
-some m is? n = m =? n
+None is? n = false
+Some m is? n = m =? n
 
 -- "sheet to name". "A sheet without a name in that list, or a name it doesn't hold, answers not listed": none
 unfoldable pub name_of : ℕ → Option (List ℕ)
-name_of n = map (λ row. row.name) (find (λ row. sheet_in row is? n) official)
+name_of n = option_map (λ row. row.name) (find (λ row. sheet_in row is? n) official)
 
 -- "name to sheet by the comparison of c)"
 unfoldable pub sheet_called : List ℕ → Option ℕ
-sheet_called name = bind (find (λ row. is_same_name name row.name) official) sheet_in
+sheet_called name = option_and_then sheet_in (find (λ row. is_same_name name row.name) official)
 
 -- "a 1:250 000 sheet" is one of scale 1
 abbrev pub is250000 : ℕ → Bool
@@ -44,10 +44,10 @@ unfoldable pub write_name : ℕ → ℕ → Paper (List ℕ)
 write_name n room = do
   refuse 3 unless is_sheet n
   refuse 22 unless is250000 n
-  laid (get_or (name_of n) []) room
+  laid (unwrap_or (name_of n) []) room
 
 -- what is answered then: how many bytes the name has, or not listed
 unfoldable pub name_told : ℕ → ℕ → Paper (Option ℕ)
 name_told n room = do
   written ← write_name n room
-  answer (map length (name_of n))
+  answer (option_map length (name_of n))

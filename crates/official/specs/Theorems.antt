@@ -1,7 +1,7 @@
 -- The words of the theorems that tie the list and the answers to document 02's sentences. Nothing here is part of a promise.
 use Rattle.std.specs.Prelude.{ℕ, ◌≤◌, ◌<◌, ◌≡◌, true, List, [], ◌∷◌, ◌++◌, length, get_or}
 use Prim.Native.Char.{code}
-use Rattle.std.proofs.Math.Option.{none, some}
+use Rattle.std.specs.Prelude.{Some, None}
 use Rattle.refusal.specs.Paper.{answer}
 use Rattle.division.specs.Sheet.{scale_of}
 use Rattle.label.specs.Label.{read_label}
@@ -58,7 +58,7 @@ pub record Agrees (line : List ℕ) : Type 0 where
   pub sheet : ℕ
   pub read : read_line line ≡ answer sheet
   pub name : List ℕ
-  pub listed : name_of sheet ≡ some name
+  pub listed : name_of sheet ≡ Some name
   pub named : has_name line ≡ true
   pub same : SameName (name_in line) name
 
@@ -67,7 +67,7 @@ pub record Differs (line : List ℕ) : Type 0 where
   pub sheet : ℕ
   pub read : read_line line ≡ answer sheet
   pub name : List ℕ
-  pub listed : name_of sheet ≡ some name
+  pub listed : name_of sheet ≡ Some name
   pub other : has_name line ≡ true → SameName (name_in line) name → ⊥
 
 -- .. which is of 1:250 000, has no official name
@@ -75,4 +75,4 @@ pub record NotListed (line : List ℕ) : Type 0 where
   pub sheet : ℕ
   pub read : read_line line ≡ answer sheet
   pub scale : scale_of sheet ≡ 1
-  pub listed : name_of sheet ≡ none
+  pub listed : name_of sheet ≡ None

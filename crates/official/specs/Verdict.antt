@@ -1,21 +1,27 @@
 -- The check of a catalogue line. Document 02, d).
 use Rattle.std.specs.Prelude.{ℕ, cond, ◌&&◌, List}
-use Rattle.std.proofs.Math.Option.{Option, none, some}
+use Rattle.std.specs.Prelude.{Option, Some, None}
 use Rattle.refusal.specs.Paper.{Paper, answer, refuse◌unless◌, ◌>>◌, ◌>>=◌}
 use Rattle.names.specs.Name.{is_same_name}
 use Rattle.catalogue.specs.Line.{has_name, name_in, read_line}
+use Rattle.official.specs.declared.verdict.Verdict.{Verdict}
+use Rattle.official.specs.declared.verdict.Verdict.TheVariants.{Agrees, Differs, NotListed}
 use Rattle.official.specs.Lookup.{name_of, is250000}
 
 -- "a check of a catalogue line that answers agrees, differs or not listed"
-pub data Verdict : Type 0 where
-  agrees : Verdict
-  differs : Verdict
-  not_listed : Verdict
+abbrev pub agrees : Verdict
+agrees = Agrees
+
+abbrev pub differs : Verdict
+differs = Differs
+
+abbrev pub not_listed : Verdict
+not_listed = NotListed
 
 -- "A line is not listed exactly when its sheet has no name there; at a listed sheet any other name, or none, differs"
 abbrev pub verdict : Option (List ℕ) → List ℕ → Verdict
-verdict none line = not_listed
-verdict (some name) line = cond (has_name line && is_same_name (name_in line) name) agrees differs
+verdict None line = not_listed
+verdict (Some name) line = cond (has_name line && is_same_name (name_in line) name) agrees differs
 
 unfoldable pub check_at : List ℕ → ℕ → Paper Verdict
 check_at line n = do

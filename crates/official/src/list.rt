@@ -1,31 +1,77 @@
 // The list: fifteen sheets, and the bytes of their names in UTF-8.
+ghost use Rattle.std.specs.Prelude.{◌≡◌, option_map};
 ghost use Rattle.official.specs.Lookup.{name_of};
-ghost use Rattle.official.specs.Given.{AreOfficial, HasName};
+ghost use Rattle.official.specs.Given.{AreOfficial};
 
-// A sheet, how many bytes its name has, and these bytes, with spaces behind them.
+// A sheet, and the bytes of its name.
 #[derive(Clone, Copy)]
-pub(crate) struct Entry(pub u32, pub usize, pub [u8; 14]);
+pub(crate) struct Entry {
+    pub sheet: u32,
+    pub name: &'static [u8],
+}
 
 const OFFICIAL: [Entry; 15] = [
-    Entry(1, 6, *b"Zagreb        "),
-    Entry(2, 8, *b"Bjelovar      "),
-    Entry(3, 13, *b"Beli Manastir "),
-    Entry(4, 6, *b"Rijeka        "),
-    Entry(5, 8, *b"Karlovac      "),
-    Entry(6, 14, *b"Slavonski Brod"),
-    Entry(7, 6, *b"Osijek        "),
-    Entry(8, 12, *b"Otok Lo\xC5\xA1inj  "),
-    Entry(9, 5, *b"Zadar         "),
-    Entry(10, 7, *b"Jan\xC4\x8Dag       "),
-    Entry(13, 5, *b"Split         "),
-    Entry(14, 8, *b"Makarska      "),
-    Entry(17, 3, *b"Vis           "),
-    Entry(18, 9, *b"Dubrovnik     "),
-    Entry(19, 8, *b"Prevlaka      "),
+    Entry {
+        sheet: 1,
+        name: b"Zagreb",
+    },
+    Entry {
+        sheet: 2,
+        name: b"Bjelovar",
+    },
+    Entry {
+        sheet: 3,
+        name: b"Beli Manastir",
+    },
+    Entry {
+        sheet: 4,
+        name: b"Rijeka",
+    },
+    Entry {
+        sheet: 5,
+        name: b"Karlovac",
+    },
+    Entry {
+        sheet: 6,
+        name: b"Slavonski Brod",
+    },
+    Entry {
+        sheet: 7,
+        name: b"Osijek",
+    },
+    Entry {
+        sheet: 8,
+        name: b"Otok Lo\xC5\xA1inj",
+    },
+    Entry {
+        sheet: 9,
+        name: b"Zadar",
+    },
+    Entry {
+        sheet: 10,
+        name: b"Jan\xC4\x8Dag",
+    },
+    Entry {
+        sheet: 13,
+        name: b"Split",
+    },
+    Entry {
+        sheet: 14,
+        name: b"Makarska",
+    },
+    Entry {
+        sheet: 17,
+        name: b"Vis",
+    },
+    Entry {
+        sheet: 18,
+        name: b"Dubrovnik",
+    },
+    Entry {
+        sheet: 19,
+        name: b"Prevlaka",
+    },
 ];
-
-// How many they are.
-pub(crate) const COUNT: usize = 15;
 
 pub(crate) fn entries() -> [Entry; 15]
     ensures { AreOfficial result }
@@ -33,18 +79,14 @@ pub(crate) fn entries() -> [Entry; 15]
     OFFICIAL
 }
 
-// The entry of a sheet; one without a byte where the sheet is not listed.
-pub(crate) fn entry_of(sheet: u32) -> Entry
-    ensures { HasName (name_of sheet) result }
+// The name of a sheet, if it is listed.
+pub(crate) fn name_of(sheet: u32) -> Option<&'static [u8]>
+    ensures { option_map (λ name. name.now) result ≡ name_of sheet }
 {
-    let list = entries();
-    let mut i: usize = 0;
-    while i < COUNT {
-        let entry = list[i];
-        if entry.0 == sheet {
-            return entry;
+    for entry in &entries() {
+        if entry.sheet == sheet {
+            return Some(entry.name);
         }
-        i += 1;
     }
-    Entry(sheet, 0, [0; 14])
+    None
 }

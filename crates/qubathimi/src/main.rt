@@ -5,80 +5,67 @@
 ghost use Rattle.std.specs.Prelude.{◌≤◌, length};
 
 use run::turn::{State, begin, turn};
+use std::fmt;
 use std::io::Read;
 use std::process::ExitCode;
 
 // How many bytes the input has room for, and the rows: 64 KiB.
 const ROOM: usize = 65536;
 
-// How many bytes were read, and whether that failed.
+// What failed.
 #[derive(Clone, Copy)]
-struct Got {
-    bytes: usize,
-    failed: bool,
+enum Failure {
+    Input,
+    Output,
 }
 
-// Where input is wanted, reads some behind what the buffer holds, and says so where it cannot.
-fn receive(rt: &impl Eprint, input: &mut impl Read, buf: &mut [u8], s: State) -> Got
+impl fmt::Display for Failure {
+    fn fmt<W: fmt::Write>(&self, f: &mut fmt::Formatter<W>) -> fmt::Result {
+        match self {
+            Failure::Input => write!(f, "standard input cannot be read"),
+            Failure::Output => write!(f, "standard output cannot be written"),
+        }
+    }
+}
+
+// Where input is wanted, reads some behind what the buffer holds. Gives how many bytes that is.
+fn receive(input: &mut impl Read, buf: &mut [u8], s: State) -> Result<usize, Failure>
     requires { s.end ≤ length buf.old }
 {
     if !s.wants {
-        return Got {
-            bytes: 0,
-            failed: false,
-        };
+        return Ok(0);
     }
-    let end = s.end;
-    match input.read(&mut buf[end..]) {
-        Ok(bytes) => Got {
-            bytes,
-            failed: false,
-        },
-        Err(_) => {
-            let _ = eprintln!(rt; "qubathimi: standard input cannot be read");
-            Got {
-                bytes: 0,
-                failed: true,
-            }
-        }
-    }
+    input.read(&mut buf[s.end..]).map_err(|_| Failure::Input)
 }
 
-// Writes what stands in a buffer, and says so where it cannot.
-fn written(rt: &(impl Print + Eprint), out: &[u8]) -> bool {
-    if rt.write_all(out).is_ok() {
-        return true;
-    }
-    let _ = eprintln!(rt; "qubathimi: standard output cannot be written");
-    false
-}
-
-// Whether all was read and written. Nothing says that the input ends, so the turns are counted, up to a number that no run uses up.
-fn run(rt: &(impl Print + Eprint), input: &mut impl Read, buf: &mut [u8], out: &mut [u8]) -> bool {
+// Reads and writes turn by turn. Nothing says that the input ends, so the turns are counted, up to a number that no run uses up.
+fn run(
+    rt: &impl Print,
+    input: &mut impl Read,
+    buf: &mut [u8],
+    out: &mut [u8],
+) -> Result<(), Failure> {
     let mut s = begin();
     for _ in 0..u64::MAX {
-        let got = receive(rt, input, buf, s);
-        if got.failed {
-            return false;
-        }
-        s = turn(buf, got.bytes, s, out);
-        let rows = s.written;
-        if !written(rt, &out[..rows]) {
-            return false;
-        }
+        let got = receive(input, buf, s)?;
+        s = turn(buf, got, s, out);
+        rt.write_all(&out[..s.written])
+            .map_err(|_| Failure::Output)?;
         if s.over {
             break;
         }
     }
-    true
+    Ok(())
 }
 
 fn main(rt: HostRuntime) -> ExitCode {
     let mut buf = [0u8; ROOM];
     let mut out = [0u8; ROOM];
-    if run(&rt, &mut rt.stdin(), &mut buf, &mut out) {
-        ExitCode::SUCCESS
-    } else {
-        ExitCode::FAILURE
+    match run(&rt, &mut rt.stdin(), &mut buf, &mut out) {
+        Ok(()) => ExitCode::SUCCESS,
+        Err(failure) => {
+            let _ = eprintln!(rt; "qubathimi: {failure}");
+            ExitCode::FAILURE
+        }
     }
 }

@@ -7,7 +7,7 @@ use borrow.Author.Tests.{le-leb, lt-leb}
 use lib.ListN.{length, get_or, set}
 use lib.Seq.{sets, sets-eq}
 use Rattle.refusal.specs.Paper.{answer, refused, room_after}
-use Rattle.relations.specs.declared.Neighbour.{Neighbour}
+use Rattle.std.specs.Prelude.{Option}
 use Rattle.relations.specs.Relations.{neighbours}
 use Rattle.telling.specs.Plain.{mark}
 use Rattle.qubathimi_c.specs.Plain.{marks, neighbours_in}
@@ -27,6 +27,6 @@ pub fits : (sheet room : ℕ) → 9 ≤ room → neighbours_in sheet room ≡ an
 unfolding neighbours_in neighbours flat_map
 fits sheet room h = rw (le-leb 9 room h)
 
-pub placed : (sheet : ℕ) (room : List ℕ) → 9 ≤ length room → {block : List (List Neighbour)} → block ≡ neighbours sheet → sets (sets (sets room 0 (marks (get_or block 0 []))) 3 (marks (get_or block 1 []))) 6 (marks (get_or block 2 [])) ≡ room_after (neighbours_in sheet (length room)) room
+pub placed : (sheet : ℕ) (room : List ℕ) → 9 ≤ length room → {block : List (List (Option ℕ))} → block ≡ neighbours sheet → sets (sets (sets room 0 (marks (get_or block 0 []))) 3 (marks (get_or block 1 []))) 6 (marks (get_or block 2 [])) ≡ room_after (neighbours_in sheet (length room)) room
 unfolding neighbours flat_map
 placed sheet room h e = rw (fits sheet (length room) h, e) (sets-eq (flat_map (map mark) (neighbours sheet)) room 0 h)

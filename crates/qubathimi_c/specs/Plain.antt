@@ -1,11 +1,9 @@
 -- Places, windows and blocks as plain numbers. Document 01, "Relations".
-use Rattle.std.specs.Prelude.{ℕ, ℤ, get_or}
+use Rattle.std.specs.Prelude.{ℕ, ℤ, get_or, Option, Some}
 use mathlib.Core.List.{List, [], ◌∷◌, map, flat_map}
 use Rattle.refusal.specs.Paper.{Paper, laid}
 use Rattle.division.specs.declared.Place.{Place}
 use Rattle.division.specs.declared.Edges.{Edges}
-use Rattle.relations.specs.declared.Neighbour.{Neighbour}
-use Rattle.relations.specs.declared.Neighbour.TheVariants.{Sheet}
 use Rattle.relations.specs.Relations.{neighbours}
 use Rattle.telling.specs.Plain.{mark}
 
@@ -21,5 +19,5 @@ unfoldable pub neighbours_in : ℕ → ℕ → Paper (List ℕ)
 neighbours_in sheet room = laid (flat_map (map mark) (neighbours sheet)) room
 
 -- the marks of a row, place by place; it has all three places, so none is taken for sheet 0
-abbrev pub marks : List Neighbour → List ℕ
-marks row = mark (get_or row 0 (Sheet 0)) ∷ mark (get_or row 1 (Sheet 0)) ∷ mark (get_or row 2 (Sheet 0)) ∷ []
+abbrev pub marks : List (Option ℕ) → List ℕ
+marks row = mark (get_or row 0 (Some 0)) ∷ mark (get_or row 1 (Some 0)) ∷ mark (get_or row 2 (Some 0)) ∷ []

@@ -6,7 +6,7 @@ ghost use Rattle.qubathimi_c.specs.Plain.{window};
 
 use delivery::check_delivery;
 use division::Edges;
-use telling::number::tell_delivered;
+use telling::number::tell;
 
 #[unsafe(no_mangle)]
 pub extern "C" fn qubathimi_check_delivery(
@@ -22,10 +22,10 @@ pub extern "C" fn qubathimi_check_delivery(
     ensures value_after { value.new ≡ carried (check_delivery scale (window west east south north) sheets.now) }
 {
     let seen = Edges {
-        west: west,
-        east: east,
-        south: south,
-        north: north,
+        west,
+        east,
+        south,
+        north,
     };
-    tell_delivered(check_delivery(scale, seen, sheets), value)
+    tell(check_delivery(scale, seen, sheets), value)
 }

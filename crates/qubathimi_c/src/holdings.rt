@@ -11,7 +11,7 @@ use holding::{holding, holding_parts};
 use list_reading::read_holdings;
 use list_writing::{holdings_length, write_holdings};
 use telling::lists::tell_read;
-use telling::number::{tell_held, tell_laid};
+use telling::number::tell;
 use telling::several::tell_parts;
 
 #[unsafe(no_mangle)]
@@ -19,7 +19,7 @@ pub extern "C" fn qubathimi_holding(sheet: u32, product: u32, value: &mut u64) -
     ensures value { result ≡ status (holding sheet product) }
     ensures value_after { value.new ≡ carried (holding sheet product) }
 {
-    tell_held(holding(sheet, product), value)
+    tell(holding(sheet, product), value)
 }
 
 #[unsafe(no_mangle)]
@@ -36,7 +36,7 @@ pub extern "C" fn qubathimi_holdings_length(holdings: &[u32], value: &mut u64) -
     ensures value { result ≡ status (holdings_length holdings.now) }
     ensures value_after { value.new ≡ carried (holdings_length holdings.now) }
 {
-    tell_laid(holdings_length(holdings), value)
+    tell(holdings_length(holdings), value)
 }
 
 #[unsafe(no_mangle)]
@@ -49,7 +49,7 @@ pub extern "C" fn qubathimi_write_holdings(
     ensures value_after { value.new ≡ carried (counted (write_holdings holdings.now (length room.old))) }
     ensures room_after { room.new ≡ room_after (write_holdings holdings.now (length room.old)) room.old }
 {
-    tell_laid(write_holdings(holdings, room), value)
+    tell(write_holdings(holdings, room), value)
 }
 
 #[unsafe(no_mangle)]

@@ -2,7 +2,7 @@
 ghost use Rattle.std.specs.Prelude.{◌≡◌, ◌+◌, ◌≤◌, length};
 ghost use Rattle.std.proofs.lemmas.List.Edits.{sets};
 ghost use Rattle.refusal.specs.Paper.{counted, room_after};
-ghost use Rattle.refusal.specs.Numbers.{laid_paper};
+ghost use Rattle.refusal.specs.Numbers.{paper};
 ghost use Rattle.relations.specs.Relations.{parent, child, step, offset};
 ghost use Rattle.division.specs.Cover.{cover};
 ghost use Rattle.telling.specs.Told.{status, carried, written};
@@ -10,11 +10,10 @@ ghost use Rattle.qubathimi_c.specs.Plain.{window, marks, neighbours_in};
 
 use division::Edges;
 use division::cover::cover;
-use refusal::{Laid, Refusal};
-use relations::Neighbour;
+use refusal::Refusal;
 use relations::kin::{child, neighbours, offset, parent, step};
 use telling::marks::mark;
-use telling::number::{tell_laid, tell_sheet};
+use telling::number::tell;
 use telling::several::tell_offset;
 
 #[unsafe(no_mangle)]
@@ -22,7 +21,7 @@ pub extern "C" fn qubathimi_parent(sheet: u32, value: &mut u64) -> u32
     ensures value { result ≡ status (parent sheet) }
     ensures value_after { value.new ≡ carried (parent sheet) }
 {
-    tell_sheet(parent(sheet), value)
+    tell(parent(sheet), value)
 }
 
 #[unsafe(no_mangle)]
@@ -30,7 +29,7 @@ pub extern "C" fn qubathimi_child(sheet: u32, scale: u32, number: u32, value: &m
     ensures value { result ≡ status (child sheet scale number) }
     ensures value_after { value.new ≡ carried (child sheet scale number) }
 {
-    tell_sheet(child(sheet, scale, number), value)
+    tell(child(sheet, scale, number), value)
 }
 
 #[unsafe(no_mangle)]
@@ -38,7 +37,7 @@ pub extern "C" fn qubathimi_step(sheet: u32, east: i64, south: i64, value: &mut 
     ensures value { result ≡ status (step sheet east south) }
     ensures value_after { value.new ≡ carried (step sheet east south) }
 {
-    tell_sheet(step(sheet, east, south), value)
+    tell(step(sheet, east, south), value)
 }
 
 #[unsafe(no_mangle)]
@@ -51,31 +50,29 @@ pub extern "C" fn qubathimi_offset(a: u32, b: u32, east: &mut i64, south: &mut i
 }
 
 // Writes a row of three places, from `at` on.
-fn put_row(places: [Neighbour; 3], room: &mut [u32], at: usize)
+fn put_row(places: [Option<u32>; 3], room: &mut [u32], at: usize)
     requires { at + 3 ≤ length room.old }
     ensures { room.new ≡ sets room.old at (marks places) }
 {
-    let west = mark(places[0]);
-    let here = mark(places[1]);
-    let east = mark(places[2]);
-    room[at] = west;
-    room[at + 1] = here;
-    room[at + 2] = east;
+    let [west, here, east] = places;
+    room[at] = mark(west);
+    room[at + 1] = mark(here);
+    room[at + 2] = mark(east);
 }
 
 // Lays the block of neighbours into lent room, where it fits.
-fn put_neighbours(sheet: u32, room: &mut [u32]) -> Laid
-    ensures result_value { laid_paper result ≡ counted (neighbours_in sheet (length room.old)) }
+fn put_neighbours(sheet: u32, room: &mut [u32]) -> Result<usize, Refusal>
+    ensures result_value { paper result ≡ counted (neighbours_in sheet (length room.old)) }
     ensures room_after { room.new ≡ room_after (neighbours_in sheet (length room.old)) room.old }
 {
     if room.len() < 9 {
-        return Laid::Refused(Refusal::Room(9));
+        return Err(Refusal::Room(9));
     }
-    let block = neighbours(sheet);
-    put_row(block[0], room, 0);
-    put_row(block[1], room, 3);
-    put_row(block[2], room, 6);
-    Laid::Items(9)
+    let [north, here, south] = neighbours(sheet);
+    put_row(north, room, 0);
+    put_row(here, room, 3);
+    put_row(south, room, 6);
+    Ok(9)
 }
 
 #[unsafe(no_mangle)]
@@ -84,7 +81,7 @@ pub extern "C" fn qubathimi_neighbours(sheet: u32, room: &mut [u32], value: &mut
     ensures value_after { value.new ≡ carried (counted (neighbours_in sheet (length room.old))) }
     ensures room_after { room.new ≡ room_after (neighbours_in sheet (length room.old)) room.old }
 {
-    tell_laid(put_neighbours(sheet, room), value)
+    tell(put_neighbours(sheet, room), value)
 }
 
 #[unsafe(no_mangle)]
@@ -102,10 +99,10 @@ pub extern "C" fn qubathimi_cover(
     ensures room_after { room.new ≡ room_after (cover scale (window west east south north) (length room.old)) room.old }
 {
     let seen = Edges {
-        west: west,
-        east: east,
-        south: south,
-        north: north,
+        west,
+        east,
+        south,
+        north,
     };
-    tell_laid(cover(scale, seen, room), value)
+    tell(cover(scale, seen, room), value)
 }

@@ -8,15 +8,17 @@ ghost use Rattle.telling.specs.Plain.{byte_count, sheet_or_none, verdict_number}
 
 use official::lookup::{official_name, official_sheet};
 use official::verdict::official_check;
-use telling::known::{tell_checked, tell_listed, tell_named};
+use telling::known::tell_listed;
+use telling::number::tell;
 
 #[unsafe(no_mangle)]
+#[tactic(auto, using(telling::proofs::TellLaws::told_through))]
 pub extern "C" fn qubathimi_official_name(sheet: u32, room: &mut [u8], value: &mut u64) -> u32
     ensures value { result ≡ status (name_told sheet (length room.old)) }
     ensures value_after { value.new ≡ carried (byte_count (name_told sheet (length room.old))) }
     ensures room_after { room.new ≡ room_after (write_name sheet (length room.old)) room.old }
 {
-    tell_named(official_name(sheet, room), value)
+    tell(official_name(sheet, room), value)
 }
 
 #[unsafe(no_mangle)]
@@ -29,9 +31,10 @@ pub extern "C" fn qubathimi_official_sheet(name: &[u8], value: &mut u64) -> u32
 }
 
 #[unsafe(no_mangle)]
+#[tactic(auto, using(telling::proofs::TellLaws::told_through))]
 pub extern "C" fn qubathimi_official_check(line: &[u8], value: &mut u64) -> u32
     ensures value { result ≡ status (check_line line.now) }
     ensures value_after { value.new ≡ carried (verdict_number (check_line line.now)) }
 {
-    tell_checked(official_check(line), value)
+    tell(official_check(line), value)
 }

@@ -11,14 +11,14 @@ use catalogue::line::read_line;
 use catalogue::parts::spans_of;
 use names::same_name;
 use telling::lines::{tell_caption, tell_spans};
-use telling::number::tell_sheet;
+use telling::number::tell;
 
 #[unsafe(no_mangle)]
 pub extern "C" fn qubathimi_read_line(line: &[u8], value: &mut u64) -> u32
     ensures value { result ≡ status (read_line line.now) }
     ensures value_after { value.new ≡ carried (read_line line.now) }
 {
-    tell_sheet(read_line(line), value)
+    tell(read_line(line), value)
 }
 
 #[unsafe(no_mangle)]

@@ -9,14 +9,14 @@ ghost use Rattle.telling.specs.Plain.{read_count};
 use list_reading::read_list;
 use list_writing::{list_length, write_list};
 use telling::lists::tell_read;
-use telling::number::tell_laid;
+use telling::number::tell;
 
 #[unsafe(no_mangle)]
 pub extern "C" fn qubathimi_list_length(sheets: &[u32], value: &mut u64) -> u32
     ensures value { result ≡ status (list_length sheets.now) }
     ensures value_after { value.new ≡ carried (list_length sheets.now) }
 {
-    tell_laid(list_length(sheets), value)
+    tell(list_length(sheets), value)
 }
 
 #[unsafe(no_mangle)]
@@ -25,7 +25,7 @@ pub extern "C" fn qubathimi_write_list(sheets: &[u32], room: &mut [u8], value: &
     ensures value_after { value.new ≡ carried (counted (write_list sheets.now (length room.old))) }
     ensures room_after { room.new ≡ room_after (write_list sheets.now (length room.old)) room.old }
 {
-    tell_laid(write_list(sheets, room), value)
+    tell(write_list(sheets, room), value)
 }
 
 #[unsafe(no_mangle)]

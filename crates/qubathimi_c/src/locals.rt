@@ -3,9 +3,9 @@ ghost use Rattle.std.specs.Prelude.{◌≡◌};
 ghost use Rattle.local.specs.Numbers.{local_to_sheet, sheet_to_local, from_three, as_three};
 ghost use Rattle.telling.specs.Told.{status, carried, written};
 
-use local::Local;
 use local::numbers::{local_to_sheet, sheet_to_local};
-use telling::number::tell_sheet;
+use local::{Local, Triple};
+use telling::number::tell;
 use telling::several::tell_local;
 
 #[unsafe(no_mangle)]
@@ -19,7 +19,8 @@ pub extern "C" fn qubathimi_local_to_sheet(
     ensures value { result ≡ status (local_to_sheet municipality.now (from_three n a b)) }
     ensures value_after { value.new ≡ carried (local_to_sheet municipality.now (from_three n a b)) }
 {
-    tell_sheet(local_to_sheet(municipality, Local::of(n, a, b)), value)
+    let known = Local::from(Triple { n, a, b });
+    tell(local_to_sheet(municipality, known), value)
 }
 
 #[unsafe(no_mangle)]

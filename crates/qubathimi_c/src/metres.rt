@@ -4,7 +4,7 @@ ghost use Rattle.frame.specs.Metres.{frame_of, sheet_at_metres, frame_at_metres}
 ghost use Rattle.telling.specs.Told.{status, carried, written};
 
 use frame::metres::{frame_at_metres, frame_of, sheet_at_metres};
-use telling::number::tell_sheet;
+use telling::number::tell;
 use telling::several::tell_frame;
 
 #[unsafe(no_mangle)]
@@ -41,7 +41,7 @@ pub extern "C" fn qubathimi_sheet_at_metres(scale: u32, e: f64, n: f64, value: &
     ensures value { result ≡ status (sheet_at_metres scale e n) }
     ensures value_after { value.new ≡ carried (sheet_at_metres scale e n) }
 {
-    tell_sheet(sheet_at_metres(scale, e, n), value)
+    tell(sheet_at_metres(scale, e, n), value)
 }
 
 #[unsafe(no_mangle)]

@@ -6,7 +6,7 @@ ghost use Rattle.qubathimi_c.specs.Plain.{place};
 
 use division::Place;
 use division::sheet::{corners_of, locate, sheet_at, sheet_on};
-use telling::number::tell_sheet;
+use telling::number::tell;
 use telling::several::{tell_corners, tell_spot};
 
 #[unsafe(no_mangle)]
@@ -29,11 +29,8 @@ pub extern "C" fn qubathimi_sheet_on(scale: u32, row: u32, column: u32, value: &
     ensures value { result ≡ status (sheet_on scale (place row column)) }
     ensures value_after { value.new ≡ carried (sheet_on scale (place row column)) }
 {
-    let at = Place {
-        row: row,
-        column: column,
-    };
-    tell_sheet(sheet_on(scale, at), value)
+    let at = Place { row, column };
+    tell(sheet_on(scale, at), value)
 }
 
 #[unsafe(no_mangle)]
@@ -41,7 +38,7 @@ pub extern "C" fn qubathimi_sheet_at(scale: u32, e: i64, n: i64, value: &mut u64
     ensures value { result ≡ status (sheet_at scale e n) }
     ensures value_after { value.new ≡ carried (sheet_at scale e n) }
 {
-    tell_sheet(sheet_at(scale, e, n), value)
+    tell(sheet_at(scale, e, n), value)
 }
 
 #[unsafe(no_mangle)]

@@ -110,9 +110,6 @@ module _ {s : List ℕ} {at front value i : ℕ} (w : Reading s at front value i
   pub sixteen : value < 10 ^ 16
   sixteen = omega (arith, w.small, pow-le-pow_right {n = 10} (omega arith) {i = i} {j = 16} (omega (arith, w.short)))
 
-  pub digit_low : is_digit (get_or s i 0) ≡ true → 48 ≤ get_or s i 0
-  digit_low e = (between_in 48 57 (get_or s i 0) e).0
-
   pub digit-few : is_digit (get_or s i 0) ≡ true → get_or s i 0 - 48 < 10
   digit-few e = omega (arith, (between_in 48 57 (get_or s i 0) e).1)
 

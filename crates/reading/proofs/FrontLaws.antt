@@ -6,7 +6,7 @@ use mathlib.Core.Bool.{Bool, true, false, cond, ◌&&◌, ◌||◌}
 use mathlib.Core.List.{List, [], ◌∷◌}
 use Prim.Native.Nat.{ℕ, zero, suc, ◌+◌, ◌≤◌, ◌<◌, min}
 use native.Mathlib.Omega.{arith}
-use borrow.Author.Tests.{eq-eqb, ne_eqb, eqb-true, eqb-false, lt-ltb, ltb-true}
+use borrow.Author.Tests.{eq-eqb, ne_eqb, eqb-true, eqb-false}
 use lib.Dec.{eqb}
 use lib.ListN.{length, get_or, take, length-take}
 use lib.Seq.{take_all}
@@ -14,7 +14,7 @@ use Rattle.refusal.specs.declared.Refusal.{Refusal}
 use Rattle.refusal.specs.Paper.{answer}
 use Rattle.refusal.specs.Numbers.{on_paper}
 use Rattle.refusal.proofs.PaperLaws.{asked-on}
-use Rattle.division.specs.Words.{◌<?◌, ◌=?◌, between}
+use Rattle.division.specs.Words.{◌=?◌, between}
 use Rattle.division.specs.Table.{first}
 use Rattle.division.specs.Sheet.{ground_of}
 use Rattle.division.proofs.TestLaws.{both, between_in, le-or-less}
@@ -23,11 +23,13 @@ use Rattle.label.specs.Label.{is_label_byte, well_formed, formed, numbers_in, re
 use Rattle.label.proofs.PieceLaws.{piece, piece-none, piece-cons, piece-take}
 use Rattle.label.proofs.PlaceLaws.{cannot}
 use Rattle.label.proofs.FormLaws.{long-form}
-use Rattle.reckoning.specs.declared.Reach.{Reach}
+use Rattle.reckoning.specs.declared.Named.{Named}
+use Rattle.std.specs.Prelude.{Option, Some, None, not}
+use Rattle.std.specs.Option.{option_eq}
+use borrow.Author.Tests.{not-true, not-false}
 use Rattle.reckoning.specs.Given.{corners_at}
-use Rattle.reading.specs.declared.numbers.Scanned.{Scanned}
 use Rattle.reading.specs.Front.{read_front}
-use Rattle.reading.specs.Given.{beginning, numbers_of, IsScanned, front_at}
+use Rattle.reading.specs.Given.{beginning, numbers_of, Found, IsScanned, front_at}
 use Rattle.reading.proofs.DigitLaws.{begins-on, begins-off, begins-none}
 use Rattle.reading.proofs.ScanLaws.{front}
 use Rattle.reading.proofs.HeldLaws.{unformed, well}
@@ -125,11 +127,10 @@ front-piece (b ∷ s) e = by (is_label_byte b) refl (front-piece s)
 
 -- ---- a label that was read
 
--- it is well formed, and the numbers that were found in s are its own
-pub record Read (s label : List ℕ) (count : ℕ) : Type 0 where
+-- it is well formed, and the numbers that were found are its own
+pub record Read (numbers label : List ℕ) : Type 0 where
   pub formed : well_formed label ≡ true
-  pub some : 0 < count
-  pub numbers : numbers_of (front s) ≡ numbers_in label
+  pub are : numbers ≡ numbers_in label
 
 -- what a well formed label has: at most 16 bytes, all of them digits and hyphens, and numbers
 few_bytes : (label : List ℕ) → well_formed label ≡ true → length label ≤ 16
@@ -147,70 +148,73 @@ label-bytes label e =
 some-numbers : (label : List ℕ) → well_formed label ≡ true → length (numbers_of label) ≡ 0 → ⊥
 some-numbers label f e = let z : true ≡ false = sym f ∙ unformed label e in let o : ◌≡◌ {A = ℕ} 0 1 = cc in omega arith
 
-module _ {s values : List ℕ} {r : Scanned} (w : IsScanned s values r) where
-  -- numbers that were found are those of what the bytes begin with
-  found : 0 < r.count → Read s (front s) r.count × (length (front s) ≡ r.end)
-  found h =
-      let g = well (front s) (λ e. omega (arith, w.held.counted, e)) in
-      (record { formed = g.0; some = h; numbers = g.1 }, sym (w.ends (λ e. omega arith)))
+-- numbers that were found are those of what the bytes begin with
+found : {s numbers : List ℕ} {end : ℕ} → Found s numbers end → Read numbers (front s)
+found {s} w =
+    let g = well (front s) (λ e. omega (arith, w.some, ap length w.are, e)) in
+    record { formed = g.0; are = w.are ∙ g.1 }
 
-  -- and of a label that is just that
-  named-so : {label : List ℕ} → front s ≡ label → Read s (front s) r.count → Read s label r.count
-  named-so e g = record { formed = rw (← e) g.formed; some = g.some; numbers = g.numbers ∙ ap numbers_in e }
+-- and of a label that is just that
+named-so : {numbers l label : List ℕ} → l ≡ label → Read numbers l → Read numbers label
+named-so e g = record { formed = rw (← e) g.formed; are = g.are ∙ ap numbers_in e }
 
-  -- and a label that the bytes begin with is found
-  finds : (label : List ℕ) → well_formed label ≡ true → front s ≡ label → (0 < r.count) × (r.end ≡ length label)
-  finds label f e =
-      let n : r.count ≡ 0 → ⊥ = λ z. some-numbers label f (ap (λ (l : List ℕ). length (numbers_of l)) (sym e) ∙ sym w.held.counted ∙ z) in
-      (omega (arith, n), w.ends n ∙ ap length e)
+-- and a label that the bytes begin with is found
+finds : (s numbers label : List ℕ) → well_formed label ≡ true → front s ≡ label → (r : Option ℕ) → IsScanned s numbers r → r ≡ Some (length label)
+finds s numbers label f e (Some end) w = ap Some (w.ends ∙ ap length e)
+finds s numbers label f e None w = absurd (some-numbers label f (ap length (sym (ap numbers_of e) ∙ w)))
+
+-- where it ends at a place, and where not, as the code asks it
+ends_at : (r : Option ℕ) (n : ℕ) → not (option_eq eqb r (Some n)) ≡ false → r ≡ Some n
+ends_at (Some k) n e = ap Some (eqb-true k n (not-false (eqb k n) e))
+ends_at None n e = let z : ◌≡◌ {A = ℕ} 0 1 = cc in absurd (omega arith)
+
+ends-elsewhere : (r : Option ℕ) (n : ℕ) → not (option_eq eqb r (Some n)) ≡ true → r ≡ Some n → ⊥
+ends-elsewhere (Some k) n e f = eqb-false k n (not-true (eqb k n) e) (let q : k ≡ n = cc in q)
+ends-elsewhere None n e f = let z : ◌≡◌ {A = ℕ} 0 1 = cc in omega arith
 
 -- all of the bytes
-module _ {s values : List ℕ} {r : Scanned} (w : IsScanned s values r) where
-  pub label-read : (0 <? r.count && r.end =? length s) ≡ true → Read s s r.count
-  label-read e =
-      let p = both (0 <? r.count) (r.end =? length s) e in
-      let g = found w (ltb-true 0 r.count p.0) in
-      named-so w (begins-long is_label_byte s (g.1 ∙ eqb-true r.end (length s) p.1)) g.0
-
-  pub label-faulty : (0 <? r.count && r.end =? length s) ≡ false → well_formed s ≡ false
-  label-faulty e = cannot (well_formed s) no
+module _ (s numbers : List ℕ) where
+  pub label-read : (r : Option ℕ) {b : Bool} → IsScanned s numbers r → b ≡ not (option_eq eqb r (Some (length s))) → b ≡ false → Read numbers s
+  label-read r w e f = whole r w (ends_at r (length s) (sym e ∙ f))
     where
-      no : well_formed s ≡ true → ⊥
-      no f =
-          let p = finds w s f (begins-all is_label_byte s (label-bytes s f)) in
-          let z : true ≡ false = rw (lt-ltb 0 r.count p.0, eq-eqb r.end (length s) p.1) at e in
-          let o : ◌≡◌ {A = ℕ} 0 1 = cc in omega arith
+      whole : (r : Option ℕ) → IsScanned s numbers r → r ≡ Some (length s) → Read numbers s
+      whole (Some end) w e = let q : end ≡ length s = cc in named-so (begins-long is_label_byte s (sym w.ends ∙ q)) (found w)
+      whole None w e = let z : ◌≡◌ {A = ℕ} 0 1 = cc in absurd (omega arith)
+
+  pub label-faulty : (r : Option ℕ) {b : Bool} → IsScanned s numbers r → b ≡ not (option_eq eqb r (Some (length s))) → b ≡ true → well_formed s ≡ false
+  label-faulty r w e f =
+      cannot (well_formed s) (λ g. ends-elsewhere r (length s) (sym e ∙ f) (finds s numbers s g (begins-all is_label_byte s (label-bytes s g)) r w))
 
 -- the first 17 bytes, as the code takes them
-pub first-bytes : (line : List ℕ) → take (min 17 (length line)) line ≡ take 17 line
+pub first-bytes : (line : List ℕ) → take (min (length line) 17) line ≡ take 17 line
 first-bytes line = ⊎_elim few many (le-or-less (length line) 17)
   where
-    few : length line ≤ 17 → take (min 17 (length line)) line ≡ take 17 line
-    few h = take_all (min 17 (length line)) line (omega arith) ∙ sym (take_all 17 line h)
+    few : length line ≤ 17 → take (min (length line) 17) line ≡ take 17 line
+    few h = take_all (min (length line) 17) line (omega arith) ∙ sym (take_all 17 line h)
 
-    many : 17 < length line → take (min 17 (length line)) line ≡ take 17 line
-    many h = let e : min 17 (length line) ≡ 17 = omega arith in rw e
+    many : 17 < length line → take (min (length line) 17) line ≡ take 17 line
+    many h = let e : min (length line) 17 ≡ 17 = omega arith in rw e
 
 -- what stands before the first space, by the first 17 bytes
-module _ (line : List ℕ) {s values : List ℕ} {r : Scanned} (q : s ≡ take 17 line) (w : IsScanned s values r) where
+module _ (line : List ℕ) {s : List ℕ} (q : s ≡ take 17 line) where
   cut : front s ≡ take 17 (front line)
   cut = ap front q ∙ begins-cut is_label_byte 17 line
 
-  pub end-there : r.end ≤ length line
-  end-there = omega (arith, w.within, ap length q, length-take 17 line)
+  module _ {numbers : List ℕ} {end : ℕ} (w : Found s numbers end) where
+    pub end-there : end ≤ length line
+    end-there = omega (arith, w.within, ap length q, length-take 17 line)
 
-  pub front_read : (0 <? r.count && ended line r.end) ≡ true → Read s (piece 32 line) r.count × (take r.end line ≡ piece 32 line)
-  front_read e =
-      let p = both (0 <? r.count) (ended line r.end) e in
-      let g = found w (ltb-true 0 r.count p.0) in
-      let few = few_bytes (front s) g.0.formed in
-      let same : front s ≡ front line = cut ∙ take_all 17 (front line) (omega (arith, few, ap length cut, length-take 17 (front line))) in
-      let end : length (front line) ≡ r.end = ap length (sym same) ∙ g.1 in
-      let label : piece 32 line ≡ front line = front-piece line (rw end p.1) in
-      (named-so w (same ∙ sym label) g.0, rw (← end, label) (begins-take is_label_byte line))
+    pub front_read : ended line end ≡ true → Read numbers (piece 32 line) × (take end line ≡ piece 32 line)
+    front_read e =
+        let g = found w in
+        let few = few_bytes (front s) g.formed in
+        let same : front s ≡ front line = cut ∙ take_all 17 (front line) (omega (arith, few, ap length cut, length-take 17 (front line))) in
+        let there : length (front line) ≡ end = ap length (sym same) ∙ sym w.ends in
+        let label : piece 32 line ≡ front line = front-piece line (rw there e) in
+        (named-so (same ∙ sym label) g, rw (← there, label) (begins-take is_label_byte line))
 
-  pub front-faulty : (0 <? r.count && ended line r.end) ≡ false → well_formed (piece 32 s) ≡ false
-  front-faulty e = cannot (well_formed (piece 32 s)) no
+  pub front-faulty : (numbers : List ℕ) (r : Option ℕ) → IsScanned s numbers r → ((end : ℕ) → r ≡ Some end → ended line end ≡ true → ⊥) → well_formed (piece 32 s) ≡ false
+  front-faulty numbers r w n = cannot (well_formed (piece 32 s)) no
     where
       no : well_formed (piece 32 s) ≡ true → ⊥
       no f =
@@ -220,9 +224,7 @@ module _ (line : List ℕ) {s values : List ℕ} {r : Scanned} (q : s ≡ take 1
           let whole = take_all 17 (piece 32 line) (omega (arith, short)) in
           let good : well_formed (piece 32 line) ≡ true = rw (part ∙ whole) at f in
           let all : front line ≡ piece 32 line = piece-front line (label-bytes (piece 32 line) good) in
-          let p = finds w (piece 32 line) good (cut ∙ rw all whole) in
-          let z : true ≡ false = rw (lt-ltb 0 r.count p.0, p.1, piece-ends line) at e in
-          let o : ◌≡◌ {A = ℕ} 0 1 = cc in omega arith
+          n (length (piece 32 line)) (finds s numbers (piece 32 line) good (cut ∙ rw all whole) r w) (piece-ends line)
 
 -- of a label that is not well formed, the first 17 bytes tell what is wrong
 pub same-fault : (line : List ℕ) → formed (piece 32 (take 17 line)) ≡ formed (piece 32 line)
@@ -242,7 +244,7 @@ pub front-refused : (line : List ℕ) (why : Refusal) → read_label (piece 32 l
 unfolding read_front
 front-refused line why e = asked-on why _ (sym e)
 
-pub front-sheet : (line : List ℕ) (s : ℕ) (x : Reach) {end : ℕ} → corners_at s x ≡ ground_of (first s + x.index) → end ≡ length (piece 32 line)
-    → answer (first s + x.index) ≡ read_label (piece 32 line) → answer (front_at s x end) ≡ read_front line
+pub front-sheet : (line : List ℕ) (x : Named) {end : ℕ} → corners_at x.scale x.reach ≡ ground_of (first x.scale + x.reach.index) → end ≡ length (piece 32 line)
+    → answer (first x.scale + x.reach.index) ≡ read_label (piece 32 line) → answer (front_at x end) ≡ read_front line
 unfolding read_front
-front-sheet line s x {end} c l e = rw (← e, c, l)
+front-sheet line x {end} c l e = rw (← e, c, l)

@@ -2,4 +2,3 @@ pub mod DigitLaws
 pub mod ScanLaws
 pub mod HeldLaws
 pub mod FrontLaws
-pub mod AnswerLaws

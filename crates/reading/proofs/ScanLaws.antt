@@ -3,19 +3,19 @@ use mathlib.Core.Path.{◌≡◌, refl, sym, ap, ◌∙◌}
 use mathlib.Core.Logic.{⊎_elim}
 use mathlib.Core.Bool.{Bool, true, false, and-false}
 use mathlib.Core.List.{List, [], ◌∷◌, ◌++◌, map, append-nil}
-use Prim.Native.Nat.{ℕ, suc, ◌+◌, ◌-◌, ◌*◌, ◌≤◌, ◌<◌}
+use Prim.Native.Nat.{ℕ, suc, ◌+◌, ◌*◌, ◌≤◌, ◌<◌}
 use native.Mathlib.Nat.{add-zero}
 use native.Mathlib.Numerals.{add-one}
 use native.Mathlib.Omega.{arith}
 use borrow.Author.Tests.{eqb-true, lt-leb}
 use lib.Dec.{eqb}
-use lib.ListN.{length, get_or, drop, set, replicate, length-append, length-replicate, drop_of_length-le, get_or-eq_default}
-use lib.Seq.{drop-cons, drop-drop, get_or-drop, append_snoc, set_at, take_at}
+use lib.ListN.{length, get_or, drop, length-append, drop_of_length-le, get_or-eq_default}
+use lib.Seq.{drop-cons, drop-drop, get_or-drop, append_snoc}
 use Rattle.division.proofs.TestLaws.{in_between, between_in, le-or-less}
 use Rattle.label.specs.Text.{every, split, value}
 use Rattle.label.specs.Label.{is_label_byte, is_field, well_formed}
 use Rattle.reading.specs.declared.numbers.Run.{Run}
-use Rattle.reading.specs.Given.{is_digit, beginning, field_from, numbers_of, IsScanned}
+use Rattle.reading.specs.Given.{is_digit, beginning, field_from, numbers_of, Found}
 use Rattle.label.proofs.SplitLaws.{split-last, split-piece}
 use Rattle.label.proofs.SpellLaws.{Digits, digits-free}
 use Rattle.reading.proofs.DigitLaws.{begins-on, begins-off, begins-none, on-at}
@@ -152,41 +152,23 @@ some-formed : (s : List ℕ) → 1 ≤ length (front s) → length (front s) ≤
 unfolding numbers_of well_formed
 some-formed s l h e = rw (in_between 1 16 (length (front s)) l h, all_pass is_label_byte s, e)
 
--- no numbers are held anywhere
-pub scanned-none : {s : List ℕ} (values : List ℕ) → [] ≡ numbers_of (front s) → IsScanned s values (record { count = 0; end = 0 })
-scanned-none values e =
-    record { held = record { counted = ap length e; within = omega arith; front = e }; within = omega arith; ends = λ n. absurd (n refl) }
-
--- one number more is held
-held_on : {values : List ℕ} (done : List ℕ) (n v : ℕ) → n < 8 → length done ≡ n → values ≡ done ++ replicate (8 - n) 0 → set values n v ≡ (done ++ (v ∷ [])) ++ replicate (8 - (n + 1)) 0
-held_on done n v h l e =
-    let k : 8 - n ≡ suc (8 - (n + 1)) = omega arith in
-    rw (e, k) (set_at done 0 (replicate (8 - (n + 1)) 0) v n l ∙ sym (append_snoc done v (replicate (8 - (n + 1)) 0)))
-
 -- ---- the loop
 
 -- A field begins at place i of s: `done` are the numbers of the fields before it. The fields from there on decide the form, and their
 -- numbers behind those are the numbers of all.
-pub record Scan (s values : List ℕ) (n i : ℕ) : Type 0 where
+pub record Scan (s done : List ℕ) (i : ℕ) : Type 0 where
   pub short : length s ≤ 17
   pub within : i ≤ length s
-  pub room : 2 * n ≤ i
-  pub done : List ℕ
-  pub count : length done ≡ n
-  pub held : values ≡ done ++ replicate (8 - n) 0
+  pub room : 2 * length done ≤ i
   pub long : i + length (front (drop i s)) ≡ length (front s)
   pub form : formed (front (drop i s)) ≡ formed (front s)
   pub numbers : done ++ map value (split 45 (front (drop i s))) ≡ map value (split 45 (front s))
 
-pub begins : (s values : List ℕ) → length s ≤ 17 → values ≡ replicate 8 0 → Scan s values 0 0
-begins s values h e =
-    record { short = h; within = omega arith; room = omega arith; done = []; count = refl; held = e; long = omega arith; form = refl; numbers = refl }
+pub begins : (s : List ℕ) {done : List ℕ} → length s ≤ 17 → done ≡ [] → Scan s done 0
+begins s h e =
+    rw e (record { short = h; within = omega arith; room = omega arith; long = omega arith; form = refl; numbers = refl })
 
-module _ {s values : List ℕ} {n i : ℕ} (w : Scan s values n i) where
-  -- there are eight places
-  pub eight : length values ≡ 8
-  eight = ap length w.held ∙ length-append w.done (replicate (8 - n) 0) ∙ omega (arith, w.count, length-replicate {A = ℕ} (8 - n) 0, w.room, w.within, w.short)
-
+module _ {s done : List ℕ} {i : ℕ} (w : Scan s done i) where
   pub ends-empty : length s ≤ i → [] ≡ numbers_of (front s)
   ends-empty h = none-formed (front s) (sym w.form ∙ rw (drop_of_length-le s h, begins-none is_label_byte) formed-none)
 
@@ -251,35 +233,29 @@ module _ {s values : List ℕ} {n i : ℕ} (w : Scan s values n i) where
           by false f = let z : r.end ≡ 17 = ap (λ (x : Run). x.end) (q ∙ bad-run f) in absurd (omega arith)
 
       module _ {r : Run} (t : Taken r) (few : r.end ≤ 16) where
-        pub place-left : n < 8
+        pub place-left : length done < 8
         place-left = omega (arith, w.room, t.ends)
 
         pub end-within : r.end ≤ length s
         end-within = omega (arith, t.ends, w.long, ap length front-is, length-append field (front (drop end s)), front-within s)
 
         -- no hyphen: the label ends here
-        pub ends : eqb (get_or s r.end 0) 45 ≡ false → IsScanned s (set values n r.value) (record { count = n + 1; end = r.end })
+        pub ends : eqb (get_or s r.end 0) 45 ≡ false → Found s (done ++ (r.value ∷ [])) r.end
         ends h =
             let none : front (drop end s) ≡ [] = no_more (drop end s) stops (rw (get_or-drop end s 0 0, add-zero end, ← t.ends) h) in
             let here : front (drop i s) ≡ field = front-is ∙ rw none (append-nil field) in
             let all : length (front s) ≡ r.end = omega (arith, w.long, ap length here, t.ends) in
             let good : formed (front s) ≡ true = sym w.form ∙ rw here (formed-last field of-digits t.good) in
             let some = some-formed s (omega (arith, all, t.ends)) (omega (arith, all, few)) good in
-            let e : w.done ++ (r.value ∷ []) ≡ numbers_of (front s) = rw (here, split-last 45 field (digits-free field of-digits), ← t.is) at w.numbers ∙ some in
-            let l : length (w.done ++ (r.value ∷ [])) ≡ n + 1 = omega (arith, length-append w.done (r.value ∷ []), w.count) in
-            let f : set values n r.value ≡ (w.done ++ (r.value ∷ [])) ++ replicate (8 - (n + 1)) 0 = held_on w.done n r.value place-left w.count w.held in
             record {
-              held = record {
-                counted = sym l ∙ ap length e;
-                within = rw f (omega (arith, l, length-append (w.done ++ (r.value ∷ [])) (replicate (8 - (n + 1)) 0)));
-                front = rw f (take_at (w.done ++ (r.value ∷ [])) (replicate (8 - (n + 1)) 0) (n + 1) l) ∙ e;
-              };
+              are = rw (here, split-last 45 field (digits-free field of-digits), ← t.is) at w.numbers ∙ some;
+              some = omega (arith, length-append done (r.value ∷ []));
               within = end-within;
-              ends = λ z. sym all;
+              ends = sym all;
             }
 
         -- a hyphen: the next field begins behind it
-        pub hyphen : eqb (get_or s r.end 0) 45 ≡ true → Scan s (set values n r.value) (n + 1) (r.end + 1)
+        pub hyphen : eqb (get_or s r.end 0) 45 ≡ true → Scan s (done ++ (r.value ∷ [])) (r.end + 1)
         hyphen h =
             let there : r.end < length s = byte-there s r.end (eqb-true (get_or s r.end 0) 45 h) in
             let next : front (drop end s) ≡ 45 ∷ front (drop (r.end + 1) s) = rw (← t.ends, drop-cons s r.end 0 there, eqb-true (get_or s r.end 0) 45 h, add-one r.end) (hyphen-more (drop (suc r.end) s)) in
@@ -288,11 +264,8 @@ module _ {s values : List ℕ} {n i : ℕ} (w : Scan s values n i) where
             record {
               short = w.short;
               within = omega arith;
-              room = omega (arith, w.room, t.ends);
-              done = w.done ++ (r.value ∷ []);
-              count = omega (arith, length-append w.done (r.value ∷ []), w.count);
-              held = held_on w.done n r.value place-left w.count w.held;
+              room = omega (arith, w.room, t.ends, length-append done (r.value ∷ []));
               long = omega (arith, w.long, ap length here, length-append field (45 ∷ rest), t.ends);
               form = sym (formed-more field of-digits t.good rest) ∙ rw here at w.form;
-              numbers = append_snoc w.done r.value (map value (split 45 rest)) ∙ rw (here, split-piece 45 field rest (digits-free field of-digits), ← t.is) at w.numbers;
+              numbers = append_snoc done r.value (map value (split 45 rest)) ∙ rw (here, split-piece 45 field rest (digits-free field of-digits), ← t.is) at w.numbers;
             }

@@ -2,13 +2,10 @@
 use Prim.Native.Char.{code}
 use Rattle.std.specs.Prelude.{ℕ, List, [], length, get_or}
 use Rattle.refusal.specs.Paper.{Paper, answer, ◌>>=◌}
-use Rattle.refusal.specs.Numbers.{on_paper}
 use Rattle.division.specs.Sheet.{ground_of}
 use Rattle.label.specs.Text.{split}
 use Rattle.label.specs.Label.{read_label}
 use Rattle.reading.specs.declared.Front.{Front}
-use Rattle.reading.specs.declared.Fronted.{Fronted}
-use Rattle.reading.specs.declared.Fronted.TheVariants as fronted
 
 -- "The label is everything before the first space, or all of the line": the sheet that it names, its corners, and where it ends
 unfoldable pub read_front : List ℕ → Paper Front
@@ -16,8 +13,3 @@ read_front line = do
   let label = get_or (split (code " ") line) 0 []
   n ← read_label label
   answer (record { sheet = n; corners = ground_of n; end = length label })
-
--- the code's answer on paper
-abbrev pub front_paper : Fronted → Paper Front
-front_paper (fronted.Label front) = answer front
-front_paper (fronted.Refused why) = on_paper why

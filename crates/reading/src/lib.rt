@@ -6,7 +6,6 @@
 #![tactic(auto)]
 
 use division::Edges;
-use refusal::Refusal;
 
 pub mod at_front;
 pub mod labels;
@@ -18,10 +17,4 @@ pub struct Front {
     pub sheet: u32,
     pub corners: Edges,
     pub end: usize,
-}
-
-#[derive(Clone, Copy)]
-pub enum Fronted {
-    Label(Front),
-    Refused(Refusal),
 }

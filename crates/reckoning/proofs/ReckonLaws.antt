@@ -1,25 +1,25 @@
 -- What fields make at a scale, once over how it is made: the reach of the place above it, and what the number there adds. Assumes nothing.
 use mathlib.Core.Path.{◌≡◌, refl, sym, ap, ap₂, ◌∙◌, subst}
-use mathlib.Core.Bool.{Bool, true, false, not, cond, ◌&&◌}
+use mathlib.Core.Bool.{Bool, true, false, cond, ◌&&◌}
 use mathlib.Core.List.{List, [], ◌∷◌}
 use Prim.Native.Nat.{ℕ, ◌+◌, ◌-◌, ◌*◌, ◌/◌, ◌%◌, ◌≤◌, ◌<◌}
 use native.Mathlib.Nat.{add-mul, mul_assoc, mul-le-mul_right}
 use native.Mathlib.Omega.{arith}
-use borrow.Author.Tests.{not-true, not-false}
 use lib.IntN.{ℤ, pos}
 use lib.ListN.{length, get_or, take, drop, length-drop}
 use lib.Seq.{take_all}
 use mir.Val.{bool_byte}
+use Rattle.std.specs.Prelude.{Some, None, Result, Ok, Err}
 use Rattle.refusal.specs.declared.Refusal.TheVariants.{NamesNoScale}
-use Rattle.refusal.specs.Paper.{Paper, answer, refused, refuse◌at◌unless◌, ◌>>◌}
+use Rattle.refusal.specs.Paper.{Paper, answer, refuse◌at◌unless◌, ◌>>◌}
 use Rattle.division.specs.declared.Edges.{Edges}
 use Rattle.division.specs.declared.Place.{Place}
+use Rattle.division.specs.declared.table.Row.{Row}
 use Rattle.division.specs.Words.{between, from, keep}
-use Rattle.division.specs.Table.{Made, of_area, of_scale, is_scale, table, table_row, rows_of, columns_of, width, height, made, rows, columns, parent_scale, side, parts, first}
+use Rattle.division.specs.Table.{Made, of_area, of_scale, is_scale, table, table_row, rows_of, columns_of, width, height, made, rows, columns, parent_scale, side, parts, first, code_row}
 use Rattle.division.specs.Grid.{millimetres, west_of, north_of, edges_of}
 use Rattle.division.specs.Sheet.{index_at, sheet_of, ground_of}
 use Rattle.division.specs.Given.{IsScale, OnGrid}
-use Rattle.division.proofs.TestLaws.{both, between_in}
 use Rattle.division.proofs.MadeLaws.{Sound}
 use Rattle.division.proofs.TableLaws.{Each, each, rules}
 use Rattle.division.proofs.NumberLaws.{index-few, scale-sheet, place-sheet}
@@ -27,17 +27,15 @@ use Rattle.division.proofs.FamilyLaws.{top, deep, above, parted}
 use Rattle.division.proofs.GridLaws.{high-in, north-is}
 use Rattle.label.specs.Text.{every, first_not, split}
 use Rattle.label.specs.Label.{mark_of, count_of, scale_with, ranges, in_range, first_out, place_from, start_of, well_formed, numbers_in, sheet_named, read_label}
-use Rattle.label.proofs.FieldLaws.{AreaRange, count-ranges, on-from, index-part}
+use Rattle.label.proofs.FieldLaws.{count-ranges, on-from, index-part}
 use Rattle.label.proofs.PlaceLaws.{first_some}
 use Rattle.label.proofs.NamedLaws as labels
 use Rattle.label.proofs.NamedLaws.{scale_from, read_none, read_named}
 use Rattle.reckoning.specs.declared.Reach.{Reach}
 use Rattle.reckoning.specs.declared.Named.{Named}
-use Rattle.reckoning.specs.declared.Named.TheVariants as naming
-use Rattle.reckoning.specs.declared.scale.Marked.TheVariants.{Scale, Unknown}
-use Rattle.reckoning.specs.declared.Reckoned.{Reckoned}
-use Rattle.reckoning.specs.declared.Reckoned.TheVariants.{At, Out}
-use Rattle.reckoning.specs.Reckoning.{reach_of, reckon, named}
+use Rattle.reckoning.specs.declared.Unnamed.{Unnamed}
+use Rattle.reckoning.specs.declared.Unnamed.TheVariants.{Scale}
+use Rattle.reckoning.specs.Reckoning.{reach_of, reckon, named_at, named, not_named}
 use Rattle.reckoning.specs.Given.{marked, Fields, InReach, corners_at}
 
 -- ---- sizes in hundreds of metres
@@ -94,20 +92,30 @@ part_reach k w h fs up =
     let j = get_or fs 0 0 - 1 in
     record { index = up.index * (k * k) + j; right = up.right + j % k * w; down = up.down + j / k * h }
 
-abbrev on_part : ℕ → ℕ → ℕ → List ℕ → Reckoned → Reckoned
-on_part k w h fs (At up) = At (part_reach k w h fs up)
-on_part k w h fs (Out i) = Out (1 + i)
+abbrev on_part : ℕ → ℕ → ℕ → List ℕ → Result Reach ℕ → Result Reach ℕ
+on_part k w h fs (Ok up) = Ok (part_reach k w h fs up)
+on_part k w h fs (Err i) = Err (1 + i)
 
-abbrev reckon_by : Made → ℕ → ℕ → List ℕ → Reckoned
+-- the same by the row of the table, as the code has it
+abbrev part_by : Row → List ℕ → Reach → Reach
+part_by t fs up =
+    let j = get_or fs 0 0 - 1 in
+    record { index = up.index * t.parts + j; right = up.right + j % t.side * (t.width / 100); down = up.down + j / t.side * (t.height / 100) }
+
+abbrev pub on_part_by : Row → List ℕ → Result Reach ℕ → Result Reach ℕ
+on_part_by t fs (Ok up) = Ok (part_by t fs up)
+on_part_by t fs (Err i) = Err (1 + i)
+
+abbrev reckon_by : Made → ℕ → ℕ → List ℕ → Result Reach ℕ
 reckon_by m w h fs =
     let p = place_from m fs in
-    cond (in_range m fs) (At (record { index = index_at m p; right = p.column * w; down = p.row * h })) (Out (first_out m fs))
+    cond (in_range m fs) (Ok (record { index = index_at m p; right = p.column * w; down = p.row * h })) (Err (first_out m fs))
 
-reckon-area : (r c w h : ℕ) (fs : List ℕ) → reckon_by (of_area r c) w h fs ≡ cond (row_in r fs && column_in c fs) (At (area_reach c w h fs)) (Out (bool_byte (row_in r fs)))
+reckon-area : (r c w h : ℕ) (fs : List ℕ) → reckon_by (of_area r c) w h fs ≡ cond (row_in r fs && column_in c fs) (Ok (area_reach c w h fs)) (Err (bool_byte (row_in r fs)))
 unfolding in_range first_out ranges every first_not index_at place_from
 reckon-area r c w h fs = by (row_in r fs) (column_in c fs)
   where
-    by : (a b : Bool) → cond (a && (b && true)) (At (area_reach c w h fs)) (Out (cond a (1 + cond b (1 + 0) 0) 0)) ≡ cond (a && b) (At (area_reach c w h fs)) (Out (bool_byte a))
+    by : (a b : Bool) → cond (a && (b && true)) (Ok (area_reach c w h fs)) (Err (cond a (1 + cond b (1 + 0) 0) 0)) ≡ cond (a && b) (Ok (area_reach c w h fs)) (Err (bool_byte a))
     by true true = refl
     by true false = refl
     by false b = refl
@@ -120,7 +128,7 @@ spread : (a k b size : ℕ) → (a * k + b) * size ≡ a * (k * size) + b * size
 spread a k b size = omega (arith, add-mul (a * k) b size, mul_assoc a k size)
 
 reckon-part : (z : ℕ) (m : Made) (k w h : ℕ) (fs : List ℕ) → Sound (of_scale z m k)
-    → reckon_by (of_scale z m k) w h fs ≡ cond (part_in (k * k) fs) (on_part k w h fs (reckon_by m (k * w) (k * h) (drop 1 fs))) (Out 0)
+    → reckon_by (of_scale z m k) w h fs ≡ cond (part_in (k * k) fs) (on_part k w h fs (reckon_by m (k * w) (k * h) (drop 1 fs))) (Err 0)
 unfolding in_range first_out ranges every first_not place_from
 reckon-part z m k w h fs sound = by (part_in (k * k) fs) refl (in_range m (drop 1 fs)) refl
   where
@@ -137,21 +145,14 @@ reckon-part z m k w h fs sound = by (part_in (k * k) fs) refl (in_range m (drop 
     above = record { index = index_at m up; right = up.column * (k * w); down = up.row * (k * h) }
 
     by : (a : Bool) → part_in (k * k) fs ≡ a → (b : Bool) → in_range m (drop 1 fs) ≡ b
-        → cond (a && b) (At here) (Out (cond a (1 + first_out m (drop 1 fs)) 0)) ≡ cond a (on_part k w h fs (cond b (At above) (Out (first_out m (drop 1 fs))))) (Out 0)
-    by true e true f = ap At (reach (index-part z m k fs sound (rw (e, f))) (spread up.column k (j % k) w) (spread up.row k (j / k) h))
+        → cond (a && b) (Ok here) (Err (cond a (1 + first_out m (drop 1 fs)) 0)) ≡ cond a (on_part k w h fs (cond b (Ok above) (Err (first_out m (drop 1 fs))))) (Err 0)
+    by true e true f = ap Ok (reach (index-part z m k fs sound (rw (e, f))) (spread up.column k (j % k) w) (spread up.row k (j / k) h))
     by true e false f = refl
     by false e b f = refl
 
 -- ---- what is reckoned
 
--- the reach that fields make, at a scale that is made from the area and at one that is made from another
-abbrev pub top_reach : ℕ → List ℕ → Reach
-top_reach s fs = area_reach (columns s) (width s / 100) (height s / 100) fs
-
-abbrev pub deep_reach : ℕ → List ℕ → Reach → Reach
-deep_reach s fs up = part_reach (side s) (width s / 100) (height s / 100) fs up
-
-abbrev deep_on : ℕ → List ℕ → Reckoned → Reckoned
+abbrev deep_on : ℕ → List ℕ → Result Reach ℕ → Result Reach ℕ
 deep_on s fs r = on_part (side s) (width s / 100) (height s / 100) fs r
 
 reckon-by : (s : ℕ) (fs : List ℕ) {m : Made} → made s ≡ m → reckon s fs ≡ reckon_by m (width s / 100) (height s / 100) fs
@@ -189,28 +190,28 @@ record Reached (s : ℕ) (x : Reach) : Type 0 where
   is : reach_of s place ≡ x
 
 module _ {s : ℕ} {fs : List ℕ} (h : Fields s fs) where
-  reached : {x : Reach} → reckon s fs ≡ At x → Reached s x
+  reached : {x : Reach} → reckon s fs ≡ Ok x → Reached s x
   unfolding reckon
   reached {x} e = by (in_range (made s) fs) refl e
     where
       p : Place
       p = place_from (made s) fs
 
-      by : (b : Bool) → in_range (made s) fs ≡ b → cond b (At (reach_of s p)) (Out (first_out (made s) fs)) ≡ At x → Reached s x
+      by : (b : Bool) → in_range (made s) fs ≡ b → cond b (Ok (reach_of s p)) (Err (first_out (made s) fs)) ≡ Ok x → Reached s x
       by true t f =
           let o = on-from (made s) fs (rules h.scale).sound t in
           record { place = p; on = record { scale = h.scale; in_rows = o.in_rows; in-columns = o.in-columns }; is = cc }
       by false t f = let z : ◌≡◌ {A = ℕ} 0 1 = cc in absurd (omega arith)
 
-  reckon-reach : {x : Reach} → reckon s fs ≡ At x → InReach s x
+  reckon-reach : {x : Reach} → reckon s fs ≡ Ok x → InReach s x
   reckon-reach e = let r = reached e in subst (InReach s) r.is (reach-in r.on)
 
   -- a field out of range is one of those there are
-  out-few : {i : ℕ} → reckon s fs ≡ Out i → i < length fs
+  out-few : {i : ℕ} → reckon s fs ≡ Err i → i < length fs
   unfolding reckon in_range first_out
   out-few {i} e = by (in_range (made s) fs) refl e
     where
-      by : (b : Bool) → in_range (made s) fs ≡ b → cond b (At (reach_of s (place_from (made s) fs))) (Out (first_out (made s) fs)) ≡ Out i → i < length fs
+      by : (b : Bool) → in_range (made s) fs ≡ b → cond b (Ok (reach_of s (place_from (made s) fs))) (Err (first_out (made s) fs)) ≡ Err i → i < length fs
       by true t f = let z : ◌≡◌ {A = ℕ} 0 1 = cc in absurd (omega arith)
       by false t f =
           let q : first_out (made s) fs ≡ i = cc in
@@ -222,27 +223,23 @@ module _ {s : ℕ} {fs : List ℕ} (h : Fields s fs) where
     unfolding count_of
     two_fields = omega (arith, h.enough, ap count_of (top h.scale e))
 
-    -- by the code's flags for the row and the column
-    module _ {a b : Bool} (p : a ≡ row_in (rows s) fs) (q : b ≡ column_in (columns s) fs) where
-      reckon-top : reckon s fs ≡ cond (a && b) (At (top_reach s fs)) (Out (bool_byte a))
-      reckon-top = reckon-by s fs (top h.scale e) ∙ reckon-area (rows s) (columns s) (width s / 100) (height s / 100) fs ∙ rw (p, q)
+    -- by the row of the table and the flags for the row and the column, as the code has them
+    module _ {t : Row} (r : t ≡ code_row s) {a b : Bool} (p : a ≡ row_in t.rows fs) (q : b ≡ column_in t.columns fs) where
+      abbrev pub top_reach : Reach
+      top_reach = area_reach t.columns (t.width / 100) (t.height / 100) fs
 
-      pub top-out : not (a && b) ≡ true → Out (bool_byte a) ≡ reckon s fs
-      top-out f = sym (reckon-top ∙ rw (not-true (a && b) f))
+      reckon-top : reckon s fs ≡ cond (a && b) (Ok top_reach) (Err (bool_byte a))
+      reckon-top = rw (p, q, r) (reckon-by s fs (top h.scale e) ∙ reckon-area (rows s) (columns s) (width s / 100) (height s / 100) fs)
 
-      module _ (f : not (a && b) ≡ false) where
-        pub top-at : At (top_reach s fs) ≡ reckon s fs
-        top-at = sym (reckon-top ∙ rw (not-false (a && b) f))
+      pub top-out : (a && b) ≡ false → Err (bool_byte a) ≡ reckon s fs
+      top-out f = sym (reckon-top ∙ rw f)
 
-        pub top-reach : InReach s (top_reach s fs)
-        top-reach = reckon-reach (sym top-at)
+      module _ (f : (a && b) ≡ true) where
+        pub top-at : Ok top_reach ≡ reckon s fs
+        top-at = sym (reckon-top ∙ rw f)
 
-        pub top-range : AreaRange (rows s) (columns s) fs
-        top-range =
-            let t = both a b (not-false (a && b) f) in
-            let x = between_in 101 (100 + rows s) (get_or fs 0 0) (sym p ∙ t.0) in
-            let y = between_in 1 (columns s) (get_or fs 1 0) (sym q ∙ t.1) in
-            record { row_low = x.0; row-high = x.1; column-low = y.0; column-high = y.1 }
+        pub top-in : InReach s top_reach
+        top-in = reckon-reach (sym top-at)
 
   -- at a scale that is made from another
   module _ (e : parent_scale s ≡ 0 → ⊥) where
@@ -256,34 +253,37 @@ module _ {s : ℕ} {fs : List ℕ} (h : Fields s fs) where
     pub fields-above : {up : ℕ} → parent_scale s ≡ up → Fields up (others fs)
     fields-above f = subst (λ (t : ℕ). Fields t (others fs)) f (rw (others-are fs) (record { scale = above h.scale e; enough = omega (arith, h.enough, count-deep, length-drop 1 fs) }))
 
-    pub reckon-above : {up : ℕ} {r : Reckoned} → parent_scale s ≡ up → r ≡ reckon up (others fs) → r ≡ reckon (parent_scale s) (drop 1 fs)
+    pub reckon-above : {up : ℕ} {r : Result Reach ℕ} → parent_scale s ≡ up → r ≡ reckon up (others fs) → r ≡ reckon (parent_scale s) (drop 1 fs)
     reckon-above f g = g ∙ rw (f, others-are fs)
 
     pub some-parts : 0 < side s
     some-parts = (parted h.scale e).some
 
-    reckon-deep : reckon s fs ≡ cond (part_in (parts s) fs) (deep_on s fs (reckon (parent_scale s) (drop 1 fs))) (Out 0)
+    reckon-deep : reckon s fs ≡ cond (part_in (parts s) fs) (deep_on s fs (reckon (parent_scale s) (drop 1 fs))) (Err 0)
     reckon-deep =
         let z = sized h.scale in
         let m = made (parent_scale s) in
         reckon-by s fs (deep h.scale e) ∙ reckon-part (parent_scale s) m (side s) (width s / 100) (height s / 100) fs (some-parts, (rules (above h.scale e)).sound) ∙ rw (z.wide.parts, z.high.parts, ← reckon-by (parent_scale s) (drop 1 fs) refl)
 
-    -- a number out of range is the first that is so, and one in range makes a part of what is above
-    pub part_out : part_in (parts s) fs ≡ false → Out 0 ≡ reckon s fs
-    part_out f = sym (reckon-deep ∙ rw f)
+    -- by the row of the table and the flag for the number, as the code has them: one out of range is the first that is so, and one in range
+    -- makes a part of what is above
+    module _ {t : Row} (r : t ≡ code_row s) {a : Bool} (p : a ≡ part_in t.parts fs) where
+      pub part_out : a ≡ false → Err 0 ≡ reckon s fs
+      part_out f = sym (reckon-deep ∙ rw (← (ap (λ (t : Row). part_in t.parts fs) r), ← p, f))
 
-    module _ (f : part_in (parts s) fs ≡ true) where
-      pub part-range : (1 ≤ get_or fs 0 0) × (get_or fs 0 0 ≤ parts s)
-      part-range = between_in 1 (parts s) (get_or fs 0 0) f
+      module _ (f : a ≡ true) {up : Result Reach ℕ} (u : up ≡ reckon (parent_scale s) (drop 1 fs)) where
+        pub part-on : on_part_by t fs up ≡ reckon s fs
+        part-on = rw (r, u) (by-row (reckon (parent_scale s) (drop 1 fs)) ∙ sym (reckon-deep ∙ rw (← (ap (λ (t : Row). part_in t.parts fs) r), ← p, f)))
+          where
+            by-row : (x : Result Reach ℕ) → on_part_by (code_row s) fs x ≡ deep_on s fs x
+            by-row (Ok x) = refl
+            by-row (Err i) = refl
 
-      pub part-on : {r : Reckoned} → reckon (parent_scale s) (drop 1 fs) ≡ r → deep_on s fs r ≡ reckon s fs
-      part-on g = sym (reckon-deep ∙ rw (f, g))
+        pub part-out-few : {i : ℕ} → up ≡ Err i → 1 + i < length fs
+        part-out-few g = out-few (sym part-on ∙ ap (λ (x : Result Reach ℕ). on_part_by t fs x) g)
 
-      pub part-out-few : {i : ℕ} → reckon (parent_scale s) (drop 1 fs) ≡ Out i → 1 + i < length fs
-      part-out-few g = out-few (sym (part-on g))
-
-      pub part-reach : {up : Reach} → reckon (parent_scale s) (drop 1 fs) ≡ At up → InReach s (deep_reach s fs up)
-      part-reach g = reckon-reach (sym (part-on g))
+        pub part-reach : {x : Reach} → up ≡ Ok x → InReach s (part_by t fs x)
+        part-reach g = reckon-reach (sym part-on ∙ ap (λ (x : Result Reach ℕ). on_part_by t fs x) g)
 
 -- ---- from scale to scale
 
@@ -291,16 +291,9 @@ module _ {s : ℕ} {fs : List ℕ} (h : Fields s fs) where
 pub from-three : (s : ℕ) → parent_scale s ≡ 3 → parent_scale s ≡ 0 → ⊥
 from-three s e z = omega arith
 
-pub from-made : (s : ℕ) {up : ℕ} → parent_scale s ≡ up → (parent_scale up ≡ 0 → ⊥) → parent_scale s ≡ 0 → ⊥
-unfolding table table_row
-from-made s e n z = n (ap (λ (t : ℕ). parent_scale t) (sym e ∙ z))
-
 -- the arm that is taken is the scale asked
 pub arm : {s n : ℕ} {fs : List ℕ} → Fields s fs → s ≡ n → Fields n fs
 arm {fs = fs} h e = subst (λ (t : ℕ). Fields t fs) e h
-
-pub at-scale : {s n : ℕ} (fs : List ℕ) {r : Reckoned} → s ≡ n → r ≡ reckon n fs → r ≡ reckon s fs
-at-scale fs e f = f ∙ ap (λ (t : ℕ). reckon t fs) (sym e)
 
 -- ---- the corners
 
@@ -330,7 +323,7 @@ corners-reach {s} {p} o =
 -- ---- what numbers name
 
 -- of none
-pub named_none : (vs : List ℕ) → length vs ≡ 0 → naming.Unknown ≡ named vs
+pub named_none : (vs : List ℕ) → length vs ≡ 0 → Err Scale ≡ named vs
 unfolding named scale_with mark_of count_of table table_row from keep
 named_none [] e = refl
 named_none (v ∷ vs) e = absurd (omega (arith, e))
@@ -340,25 +333,25 @@ module _ (vs : List ℕ) where
   scale = scale_with (get_or vs 0 0) (length vs)
 
   -- by what the first number and the count name
-  pub named-not : marked (get_or vs 0 0) (length vs) ≡ Unknown → naming.Unknown ≡ named vs
+  pub named-not : marked (get_or vs 0 0) (length vs) ≡ None → Err Scale ≡ named vs
   unfolding named
   named-not e = by (is_scale scale) e
     where
-      by : (b : Bool) → cond b (Scale scale) Unknown ≡ Unknown → naming.Unknown ≡ cond b (naming.Scale scale (reckon scale (drop 1 vs))) naming.Unknown
+      by : (b : Bool) → cond b (Some scale) None ≡ None → Err Scale ≡ cond b (named_at scale (reckon scale (drop 1 vs))) (Err Scale)
       by true f = let z : ◌≡◌ {A = ℕ} 0 1 = cc in absurd (omega arith)
       by false f = refl
 
-  module _ {s : ℕ} (e : marked (get_or vs 0 0) (length vs) ≡ Scale s) where
+  module _ {s : ℕ} (e : marked (get_or vs 0 0) (length vs) ≡ Some s) where
     is-named : (is_scale scale ≡ true) × (scale ≡ s)
     is-named = by (is_scale scale) e
       where
-        by : (b : Bool) → cond b (Scale scale) Unknown ≡ Scale s → (b ≡ true) × (scale ≡ s)
+        by : (b : Bool) → cond b (Some scale) None ≡ Some s → (b ≡ true) × (scale ≡ s)
         by true f = (refl, cc)
         by false f = let z : ◌≡◌ {A = ℕ} 0 1 = cc in absurd (omega arith)
 
-    pub named_by : naming.Scale s (reckon s (drop 1 vs)) ≡ named vs
+    pub named_by : {r : Result Reach ℕ} → r ≡ reckon s (drop 1 vs) → named_at s r ≡ named vs
     unfolding named
-    named_by = let n = is-named in rw (n.0, n.1)
+    named_by f = let n = is-named in rw (f, n.0, n.1)
 
     scale-from : scale_from vs ≡ answer s
     scale-from = let n = is-named in rw (n.0, n.1)
@@ -368,44 +361,41 @@ module _ (vs : List ℕ) where
         let m = labels.named (get_or vs 0 0) (length vs) s scale-from in
         record { scale = m.scale; enough = omega (arith, m.count, length-drop 1 vs) }
 
+    -- a number out of range is one of those there are
+    pub named-few : {i : ℕ} → reckon s (drop 1 vs) ≡ Err i → 1 + i < length vs
+    named-few f = omega (arith, out-few fields-named f, length-drop 1 vs)
+
 -- what is made at a scale is made by the numbers behind the first, and these are as many as its labels have
-module _ (vs : List ℕ) {s : ℕ} where
-  known : {r : Reckoned} → named vs ≡ naming.Scale s r → Fields s (drop 1 vs) × (reckon s (drop 1 vs) ≡ r)
+module _ (vs : List ℕ) {x : Named} where
+  known : named vs ≡ Ok x → Fields x.scale (drop 1 vs) × (reckon x.scale (drop 1 vs) ≡ Ok x.reach)
   unfolding named
-  known {r} e = by (is_scale (scale vs)) refl e
+  known e = by (is_scale (scale vs)) refl (reckon (scale vs) (drop 1 vs)) refl e
     where
-      by : (b : Bool) → is_scale (scale vs) ≡ b → cond b (naming.Scale (scale vs) (reckon (scale vs) (drop 1 vs))) naming.Unknown ≡ naming.Scale s r → Fields s (drop 1 vs) × (reckon s (drop 1 vs) ≡ r)
-      by true t f =
-          let e : scale vs ≡ s = cc in
-          let g : reckon (scale vs) (drop 1 vs) ≡ r = cc in
-          (fields-named vs (rw (t, e)), rw e at g)
-      by false t f = let z : ◌≡◌ {A = ℕ} 0 1 = cc in absurd (omega arith)
+      by : (b : Bool) → is_scale (scale vs) ≡ b → (r : Result Reach ℕ) → reckon (scale vs) (drop 1 vs) ≡ r → cond b (named_at (scale vs) r) (Err Scale) ≡ Ok x → Fields x.scale (drop 1 vs) × (reckon x.scale (drop 1 vs) ≡ Ok x.reach)
+      by true t (Ok y) g f =
+          let q : ◌≡◌ {A = Named} (record { scale = scale vs; reach = y }) x = cc in
+          let e : scale vs ≡ x.scale = ap (λ (n : Named). n.scale) q in
+          (fields-named vs (rw (t, e)), rw e at g ∙ ap (λ (n : Named). Ok n.reach) q)
+      by true t (Err i) g f = let z : ◌≡◌ {A = ℕ} 0 1 = cc in absurd (omega arith)
+      by false t r g f = let z : ◌≡◌ {A = ℕ} 0 1 = cc in absurd (omega arith)
 
-  pub named-out : {i : ℕ} → named vs ≡ naming.Scale s (Out i) → i < length (drop 1 vs)
-  named-out e = out-few (known e).0 (known e).1
-
-  module _ {x : Reach} (e : named vs ≡ naming.Scale s (At x)) where
-    pub named-reach : InReach s x
+  module _ (e : named vs ≡ Ok x) where
+    pub named-reach : InReach x.scale x.reach
     named-reach = reckon-reach (known e).0 (known e).1
 
-    pub named-corners : corners_at s x ≡ ground_of (first s + x.index)
+    pub named-corners : corners_at x.scale x.reach ≡ ground_of (first x.scale + x.reach.index)
     named-corners =
         let r = reached (known e).0 (known e).1 in
-        subst (λ (x : Reach). corners_at s x ≡ ground_of (first s + x.index)) r.is (corners-reach r.on)
+        subst (λ (y : Reach). corners_at x.scale y ≡ ground_of (first x.scale + y.index)) r.is (corners-reach r.on)
 
 -- ---- what a label names by its numbers
 
 -- the sheet, or "5: a label field out of range", or "21 an unknown first number or count of fields"
-abbrev pub on_label : List ℕ → Named → Paper ℕ
-on_label bytes (naming.Scale s (At x)) = answer (first s + x.index)
-on_label bytes (naming.Scale s (Out i)) = refused 5 (start_of (1 + i) (split 45 bytes))
-on_label bytes naming.Unknown = refused 21 0
+abbrev pub on_label : List ℕ → Result Named Unnamed → Paper ℕ
+on_label bytes (Ok n) = answer (first n.scale + n.reach.index)
+on_label bytes (Err why) = not_named why bytes
 
--- the field out of range, as the code counts it
-pub field_at : (bytes : List ℕ) (i : ℕ) {k : ℕ} → k ≡ start_of (i + 1) (split 45 bytes) → ◌≡◌ {A = Paper ℕ} (refused 5 k) (refused 5 (start_of (1 + i) (split 45 bytes)))
-field_at bytes i e = let q : i + 1 ≡ 1 + i = omega arith in ap (refused 5) (e ∙ ap (λ (n : ℕ). start_of n (split 45 bytes)) q)
-
-sheet-reckoned : (s : ℕ) (bytes : List ℕ) → sheet_named s bytes ≡ on_label bytes (naming.Scale s (reckon s (drop 1 (numbers_in bytes))))
+sheet-reckoned : (s : ℕ) (bytes : List ℕ) → sheet_named s bytes ≡ on_label bytes (named_at s (reckon s (drop 1 (numbers_in bytes))))
 unfolding sheet_named reckon
 sheet-reckoned s bytes = by (in_range (made s) fs)
   where
@@ -415,17 +405,17 @@ sheet-reckoned s bytes = by (in_range (made s) fs)
     p : Place
     p = place_from (made s) fs
 
-    by : (b : Bool) → ((refuse 5 at start_of (1 + first_out (made s) fs) (split 45 bytes) unless b) >> answer (sheet_of s p)) ≡ on_label bytes (naming.Scale s (cond b (At (reach_of s p)) (Out (first_out (made s) fs))))
+    by : (b : Bool) → ((refuse 5 at start_of (1 + first_out (made s) fs) (split 45 bytes) unless b) >> answer (sheet_of s p)) ≡ on_label bytes (named_at s (cond b (Ok (reach_of s p)) (Err (first_out (made s) fs))))
     by true = refl
     by false = refl
 
-pub label-named : (bytes : List ℕ) → well_formed bytes ≡ true → {r : Named} → named (numbers_in bytes) ≡ r → on_label bytes r ≡ read_label bytes
+pub label-named : (bytes : List ℕ) → well_formed bytes ≡ true → {r : Result Named Unnamed} → named (numbers_in bytes) ≡ r → on_label bytes r ≡ read_label bytes
 unfolding named
 label-named bytes w {r} e = ap (on_label bytes) (sym e) ∙ by (is_scale s) refl
   where
     s : ℕ
     s = scale (numbers_in bytes)
 
-    by : (b : Bool) → is_scale s ≡ b → on_label bytes (cond b (naming.Scale s (reckon s (drop 1 (numbers_in bytes)))) naming.Unknown) ≡ read_label bytes
+    by : (b : Bool) → is_scale s ≡ b → on_label bytes (cond b (named_at s (reckon s (drop 1 (numbers_in bytes)))) (Err Scale)) ≡ read_label bytes
     by true t = sym (read_named bytes w s (rw t) ∙ sheet-reckoned s bytes)
     by false t = sym (read_none bytes w NamesNoScale (rw t))

@@ -1,16 +1,14 @@
 -- What the inner functions take for granted and give, and what a reach tells.
-use Rattle.std.specs.Prelude.{ℕ, ◌+◌, ◌-◌, ◌*◌, ◌/◌, ◌≤◌, ◌<◌, cond, List, pos, length}
+use Rattle.std.specs.Prelude.{ℕ, ◌+◌, ◌-◌, ◌*◌, ◌/◌, ◌≤◌, ◌<◌, cond, List, pos, length, Option, Some, None}
 use Rattle.division.specs.declared.Edges.{Edges}
 use Rattle.division.specs.Table.{is_scale, made, width, height, sheets}
 use Rattle.division.specs.Given.{IsScale}
 use Rattle.label.specs.Label.{count_of, scale_with}
 use Rattle.reckoning.specs.declared.Reach.{Reach}
-use Rattle.reckoning.specs.declared.scale.Marked.{Marked}
-use Rattle.reckoning.specs.declared.scale.Marked.TheVariants.{Scale, Unknown}
 
 -- the scale that a first number and a count of fields name, if they name one
-abbrev pub marked : ℕ → ℕ → Marked
-marked mark count = cond (is_scale (scale_with mark count)) (Scale (scale_with mark count)) Unknown
+abbrev pub marked : ℕ → ℕ → Option ℕ
+marked mark count = cond (is_scale (scale_with mark count)) (Some (scale_with mark count)) None
 
 -- a scale, and at least as many fields as its labels have behind the first number
 pub record Fields (s : ℕ) (fields : List ℕ) : Type 0 where

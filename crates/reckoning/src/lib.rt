@@ -6,7 +6,7 @@ ghost use Rattle.std.specs.Prelude.{◌≡◌};
 ghost use Rattle.reckoning.specs.Reckoning.{named};
 
 use crate::ground::ground_from;
-use crate::scale::{Marked, scale_named};
+use crate::scale::scale_named;
 
 mod ground;
 mod scale;
@@ -19,31 +19,33 @@ pub struct Reach {
     pub down: u32,
 }
 
-// What the numbers behind the first make at a scale, or the first of them that is out of range, counted from 0.
+// What numbers name: a scale, and the reach of a sheet of it.
 #[derive(Clone, Copy)]
-pub enum Reckoned {
-    At(Reach),
-    Out(usize),
+pub struct Named {
+    pub scale: u32,
+    pub reach: Reach,
 }
 
-// The scale that numbers name, and what they make there; or their first number and their count are none of those known.
+// Why numbers name no sheet: their first and their count are none of those known, or the number at a place of theirs is out of range, the
+// first of those that are.
 #[derive(Clone, Copy)]
-pub enum Named {
-    Scale(u32, Reckoned),
-    Unknown,
+pub enum Unnamed {
+    Scale,
+    Number(usize),
 }
 
 // What numbers name, whatever they are and however many.
-pub fn sheet_named(numbers: &[u64]) -> Named
+pub fn sheet_named(numbers: &[u64]) -> Result<Named, Unnamed>
     ensures { result ≡ named numbers.now }
 {
-    let count = numbers.len();
-    if count == 0 {
-        return Named::Unknown;
-    }
-    let first = numbers[0];
-    match scale_named(first, count) {
-        Marked::Unknown => Named::Unknown,
-        Marked::Scale(s) => Named::Scale(s, ground_from(s, &numbers[1..])),
+    let Some((&first, others)) = numbers.split_first() else {
+        return Err(Unnamed::Scale);
+    };
+    let Some(scale) = scale_named(first, numbers.len()) else {
+        return Err(Unnamed::Scale);
+    };
+    match ground_from(scale, others) {
+        Ok(reach) => Ok(Named { scale, reach }),
+        Err(i) => Err(Unnamed::Number(1 + i)),
     }
 }

@@ -10,12 +10,9 @@ use lib.ListN.{length, get_or}
 use Rattle.refusal.specs.declared.Refusal.{Refusal}
 use Rattle.refusal.specs.declared.Refusal.TheVariants.{PointOutside, NoScale, NoSheet, LabelLength, FieldRange, NoSuch, WindowOrder, WindowOutside, TooMany, Room, EndsEarly, BadNumber, PastLast, MoreBytes, NotRising, NameForm, NameScale, NoNumber, StrangeByte, FieldForm, NamesNoScale, Not250000, NoMunicipality, NoProduct, NotOfCover, SeenBefore, Missing}
 use Rattle.refusal.specs.declared.Numbered.{Numbered}
-use Rattle.refusal.specs.declared.Laid.{Laid}
-use Rattle.refusal.specs.declared.Laid.TheVariants.{Items, Refused}
-use Rattle.refusal.specs.declared.Judged.{Judged}
-use Rattle.refusal.specs.declared.Judged.TheVariants as judged
+use Rattle.std.specs.Prelude.{Option, Some, None, unwrap_or, is_some, Result, Ok, Err}
 use Rattle.refusal.specs.Paper.{Paper, answer, refused, is_answer, refuse◌at◌unless◌, refuse◌unless◌, ◌>>◌, ◌>>=◌, room_for, laid, counted, room_after}
-use Rattle.refusal.specs.Numbers.{on_paper, carries, IsNumbered, laid_paper, judged_paper}
+use Rattle.refusal.specs.Numbers.{on_paper, carries, IsNumbered, paper}
 
 -- ---- a line of a cascade, by the code's flag for its test: `if !flag { return .. }`
 
@@ -134,44 +131,32 @@ on-paper (NotOfCover place) = record { number = 25; some = refl; value = place; 
 on-paper (SeenBefore place) = record { number = 26; some = refl; value = place; bare = carried 26 place refl; is = λ A. refl }
 on-paper (Missing sheet) = record { number = 27; some = refl; value = sheet; bare = carried 27 sheet refl; is = λ A. refl }
 
+same_carried : (a b : Option ℕ) → unwrap_or a 0 ≡ unwrap_or b 0 → is_some a ≡ is_some b → a ≡ b
+same_carried None None e f = refl
+same_carried None (Some y) e f = let z : ◌≡◌ {A = ℕ} 0 1 = cc in absurd (omega arith)
+same_carried (Some x) None e f = let z : ◌≡◌ {A = ℕ} 0 1 = cc in absurd (omega arith)
+same_carried (Some x) (Some y) e f = ap Some e
+
 -- and there is one telling of it in numbers
 pub one-numbering : {why : Refusal} {a b : Numbered} → IsNumbered why a → IsNumbered why b → a ≡ b
-one-numbering {why} {a} {b} x y = λ i. (number i, value i, flag i)
+one-numbering {why} {a} {b} x y = λ i. record { number = number i; value = value i }
   where
-    same : ◌≡◌ {A = Paper ℕ} (refused a.0 a.1) (refused b.0 b.1)
+    same : ◌≡◌ {A = Paper ℕ} (refused a.number (unwrap_or a.value 0)) (refused b.number (unwrap_or b.value 0))
     same = x.told ∙ sym y.told
 
-    number : a.0 ≡ b.0
+    number : a.number ≡ b.number
     number = cc
 
-    value : a.1 ≡ b.1
-    value = cc
+    value : a.value ≡ b.value
+    value = same_carried a.value b.value (cc) (x.carried ∙ ap carries number ∙ sym y.carried)
 
-    flag : a.2 ≡ b.2
-    flag = x.carried ∙ ap carries number ∙ sym y.carried
+-- the paper gives an answer back, so two answers that meet one contract, `paper r ≡ definition`, are the same
+given_back : {A : Type 0} (r : Result A Refusal) → read Ok Err (paper r) ≡ r
+given_back (Ok answered) = refl
+given_back (Err why) = read-refusal Ok Err why
 
--- a kind of answer that the paper gives back
-pub record Told {A X : Type 0} (paper : A → Paper X) : Type 0 where
-  pub back : Paper X → A
-  pub again : (a : A) → back (paper a) ≡ a
-
--- so two answers that meet one contract, `paper r ≡ definition`, are the same
-pub coincide : {A X : Type 0} {paper : A → Paper X} → Told paper → {a b : A} {d : Paper X} → paper a ≡ d → paper b ≡ d → a ≡ b
-coincide t {a} {b} e f = sym (t.again a) ∙ ap t.back (e ∙ sym f) ∙ t.again b
-
-pub laid-told : Told laid_paper
-laid-told = record { back = read Items Refused; again = again }
-  where
-    again : (a : Laid) → read Items Refused (laid_paper a) ≡ a
-    again (Items n) = refl
-    again (Refused why) = read-refusal Items Refused why
-
-pub judged-told : Told judged_paper
-judged-told = record { back = read (λ (u : Unit). judged.Fine) judged.Refused; again = again }
-  where
-    again : (a : Judged) → read (λ (u : Unit). judged.Fine) judged.Refused (judged_paper a) ≡ a
-    again judged.Fine = refl
-    again (judged.Refused why) = read-refusal (λ (u : Unit). judged.Fine) judged.Refused why
+pub coincide : {A : Type 0} {a b : Result A Refusal} {d : Paper A} → paper a ≡ d → paper b ≡ d → a ≡ b
+coincide {a = a} {b} e f = sym (given_back a) ∙ ap (read Ok Err) (e ∙ sym f) ∙ given_back b
 
 -- ---- what is answered has passed every line in front of it, and a line that refuses decides
 

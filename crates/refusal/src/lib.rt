@@ -1,10 +1,12 @@
 // The refusals: document 01, "Numbers of refusal", and those that document 02 adds. Every question of the box gets its answer or one of
-// these. And `lay`, for bytes that are there already and go into lent room.
+// these: a `Result` with a `Refusal`. And `lay`, for bytes that are there already and go into lent room; `put` and
+// `put_byte` where there is room.
 #![tactic(auto)]
 
-ghost use Rattle.std.specs.Prelude.{◌≡◌, length};
+ghost use Rattle.std.specs.Prelude.{◌≡◌, [], ◌∷◌, ◌+◌, ◌≤◌, ◌<◌, length, None, Some};
 ghost use Rattle.refusal.specs.Paper.{laid, counted, room_after};
-ghost use Rattle.refusal.specs.Numbers.{IsNumbered, laid_paper};
+ghost use Rattle.refusal.specs.Numbers.{IsNumbered, paper};
+ghost use Rattle.refusal.specs.Given.{Wrote};
 
 // Why there is no answer, in the order of the papers' numbers, from 1.
 #[derive(Clone, Copy)]
@@ -43,75 +45,96 @@ pub enum Refusal {
     Missing(u32),
 }
 
-// What was laid into lent room: so many sheets or bytes, from its first place on; or a refusal, and the room is as it was.
+// A refusal as the paper tells it: its number, and the value that it carries, if it carries one.
 #[derive(Clone, Copy)]
-pub enum Laid {
-    Items(usize),
-    Refused(Refusal),
+pub struct Numbered {
+    pub number: u32,
+    pub value: Option<usize>,
 }
 
-// Whether something is as it should be, where there is nothing to hand back.
-#[derive(Clone, Copy)]
-pub enum Judged {
-    Fine,
-    Refused(Refusal),
-}
+impl Numbered {
+    const fn bare(number: u32) -> Numbered
+        ensures { result ≡ record { number = number; value = None } }
+    {
+        Numbered {
+            number,
+            value: None,
+        }
+    }
 
-// A refusal as the paper tells it: its number, the value that it carries, 0 where it carries none, and whether it carries one.
-#[derive(Clone, Copy)]
-pub struct Numbered(pub u32, pub usize, pub bool);
+    const fn carrying(number: u32, value: usize) -> Numbered
+        ensures { result ≡ record { number = number; value = Some value } }
+    {
+        Numbered {
+            number,
+            value: Some(value),
+        }
+    }
+}
 
 impl Refusal {
     pub fn numbered(self) -> Numbered
         ensures { IsNumbered self result }
     {
         match self {
-            Refusal::PointOutside => Numbered(1, 0, false),
-            Refusal::NoScale => Numbered(2, 0, false),
-            Refusal::NoSheet => Numbered(3, 0, false),
-            Refusal::LabelLength(place) => Numbered(4, place, true),
-            Refusal::FieldRange(place) => Numbered(5, place, true),
-            Refusal::NoSuch => Numbered(6, 0, false),
-            Refusal::WindowOrder => Numbered(7, 0, false),
-            Refusal::WindowOutside => Numbered(8, 0, false),
-            Refusal::TooMany => Numbered(9, 0, false),
-            Refusal::Room(needed) => Numbered(10, needed, true),
-            Refusal::EndsEarly => Numbered(11, 0, false),
-            Refusal::BadNumber => Numbered(12, 0, false),
-            Refusal::PastLast => Numbered(13, 0, false),
-            Refusal::MoreBytes => Numbered(14, 0, false),
-            Refusal::NotRising => Numbered(15, 0, false),
-            Refusal::NameForm => Numbered(16, 0, false),
-            Refusal::NameScale => Numbered(17, 0, false),
-            Refusal::NoNumber => Numbered(18, 0, false),
-            Refusal::StrangeByte(place) => Numbered(19, place, true),
-            Refusal::FieldForm(place) => Numbered(20, place, true),
-            Refusal::NamesNoScale => Numbered(21, 0, true),
-            Refusal::Not250000 => Numbered(22, 0, false),
-            Refusal::NoMunicipality => Numbered(23, 0, false),
-            Refusal::NoProduct => Numbered(24, 0, false),
-            Refusal::NotOfCover(place) => Numbered(25, place, true),
-            Refusal::SeenBefore(place) => Numbered(26, place, true),
-            Refusal::Missing(sheet) => {
-                let value = sheet as usize;
-                Numbered(27, value, true)
-            }
+            Refusal::PointOutside => Numbered::bare(1),
+            Refusal::NoScale => Numbered::bare(2),
+            Refusal::NoSheet => Numbered::bare(3),
+            Refusal::LabelLength(place) => Numbered::carrying(4, place),
+            Refusal::FieldRange(place) => Numbered::carrying(5, place),
+            Refusal::NoSuch => Numbered::bare(6),
+            Refusal::WindowOrder => Numbered::bare(7),
+            Refusal::WindowOutside => Numbered::bare(8),
+            Refusal::TooMany => Numbered::bare(9),
+            Refusal::Room(needed) => Numbered::carrying(10, needed),
+            Refusal::EndsEarly => Numbered::bare(11),
+            Refusal::BadNumber => Numbered::bare(12),
+            Refusal::PastLast => Numbered::bare(13),
+            Refusal::MoreBytes => Numbered::bare(14),
+            Refusal::NotRising => Numbered::bare(15),
+            Refusal::NameForm => Numbered::bare(16),
+            Refusal::NameScale => Numbered::bare(17),
+            Refusal::NoNumber => Numbered::bare(18),
+            Refusal::StrangeByte(place) => Numbered::carrying(19, place),
+            Refusal::FieldForm(place) => Numbered::carrying(20, place),
+            Refusal::NamesNoScale => Numbered::carrying(21, 0),
+            Refusal::Not250000 => Numbered::bare(22),
+            Refusal::NoMunicipality => Numbered::bare(23),
+            Refusal::NoProduct => Numbered::bare(24),
+            Refusal::NotOfCover(place) => Numbered::carrying(25, place),
+            Refusal::SeenBefore(place) => Numbered::carrying(26, place),
+            Refusal::Missing(sheet) => Numbered::carrying(27, sheet as usize),
         }
     }
 }
 
-// Lays bytes into lent room, where they fit.
-pub fn lay(bytes: &[u8], room: &mut [u8]) -> Laid
-    ensures result_value { laid_paper result ≡ counted (laid bytes.now (length room.old)) }
+// Puts a byte, or bytes, into lent room from a place on, and gives the place behind them.
+pub fn put_byte(b: u8, room: &mut [u8], at: usize) -> usize
+    requires { at < length room.old }
+    ensures { Wrote room.old at room.new result (b ∷ []) }
+{
+    room[at] = b;
+    at + 1
+}
+
+pub fn put(bytes: &[u8], room: &mut [u8], at: usize) -> usize
+    requires { at + length bytes.now ≤ length room.old }
+    ensures { Wrote room.old at room.new result bytes.now }
+{
+    let end = at + bytes.len();
+    room[at..end].copy_from_slice(bytes);
+    end
+}
+
+// Lays bytes into lent room, from its first place on, where they fit. An answer is how many they are.
+pub fn lay(bytes: &[u8], room: &mut [u8]) -> Result<usize, Refusal>
+    ensures result_value { paper result ≡ counted (laid bytes.now (length room.old)) }
     ensures room_after { room.new ≡ room_after (laid bytes.now (length room.old)) room.old }
 {
-    if room.len() < bytes.len() {
-        return Laid::Refused(Refusal::Room(bytes.len()));
+    let needed = bytes.len();
+    if room.len() < needed {
+        return Err(Refusal::Room(needed));
     }
-    let mut i: usize = 0;
-    while i < bytes.len() {
-        room[i] = bytes[i];
-        i += 1;
-    }
-    Laid::Items(i)
+    room[..needed].copy_from_slice(bytes);
+    Ok(needed)
 }

@@ -1,3 +1,2 @@
 pub mod RelationLaws
 pub mod RelationTheorems
-pub mod AnswerLaws

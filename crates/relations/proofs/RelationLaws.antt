@@ -1,25 +1,27 @@
 -- A place that stays on its line when it is moved is a plain number below the line's count, and a part's index lies in its parent's. Assumes nothing.
-use mathlib.Core.Path.{◌≡◌}
-use mathlib.Core.Bool.{true, ◌&&◌}
+use mathlib.Core.Path.{◌≡◌, refl, sym, ◌∙◌}
+use mathlib.Core.Bool.{Bool, true}
 use mathlib.Core.List.{[], ◌∷◌}
 use Prim.Native.Nat.{ℕ, ◌+◌, ◌*◌, ◌/◌, ◌≤◌, ◌<◌}
 use native.Mathlib.Nat.{mul-le-mul_right}
 use native.Mathlib.Omega.{arith}
-use borrow.Author.Tests.{leb-true, ltb-true, eqb-true}
-use lib.IntN.{ℤ, pos, nat_abs, ◌-ℤ◌}
-use lib.Signed.{le_z, lt_z}
+use borrow.Author.Tests.{le-leb, leb-true, ltb-true, eqb-true}
+use lib.IntN.{ℤ, pos, nat_abs}
 use Rattle.refusal.specs.declared.Refusal.{Refusal}
-use Rattle.refusal.specs.Paper.{Paper, refuse◌unless◌, ◌>>◌}
-use Rattle.refusal.specs.Numbers.{on_paper}
-use Rattle.refusal.proofs.PaperLaws.{refuses-so}
+use Rattle.refusal.specs.Paper.{Paper, answer, refuse◌unless◌, ◌>>◌}
+use Rattle.std.specs.Prelude.{Result, Ok, Err}
+use Rattle.std.specs.Result.{result_ok}
+use Rattle.refusal.specs.Numbers.{on_paper, paper}
+use Rattle.refusal.proofs.PaperLaws.{refuses-so, on-paper, passed, same_answer}
 use Rattle.division.specs.declared.Spot.{Spot}
 use Rattle.division.specs.Words.{◌≤?◌, ◌=?◌, ◌≤ᶻ◌, ◌<ᶻ◌, between}
-use Rattle.division.specs.Table.{rows, columns, sheets, first, parent_scale, parts}
+use Rattle.division.specs.Table.{is_scale, rows, columns, sheets, first, parent_scale, parts}
 use Rattle.division.specs.Sheet.{is_sheet, scale_of, index_of, part_index, spot_of, locate}
-use Rattle.relations.specs.Relations.{moved, stays, is_part}
+use Rattle.relations.specs.Relations.{parent, moved, stays, is_part, or_none, walk}
+use Rattle.relations.specs.Given.{moved_on}
 use Rattle.division.specs.Given.{IsScale, OnGrid}
-use Rattle.division.proofs.TestLaws.{both, Plain, from-pos, le-shift, lt-shift}
-use Rattle.division.proofs.TableLaws.{rules}
+use Rattle.division.proofs.TestLaws.{both, Plain, from-pos}
+use Rattle.division.proofs.TableLaws.{rules, scale as is-a-scale}
 use Rattle.division.proofs.NumberLaws.{ranged, indexed}
 use Rattle.division.proofs.FamilyLaws.{above, sheets-family, parent-indexed}
 
@@ -29,10 +31,6 @@ unfolding locate
 not-located n next why e = refuses-so (refuse 3 unless is_sheet n) (spot_of n) next why e
 
 -- ---- moves
-
--- the test as the code makes it, by what lies behind the place and ahead of it
-pub stays-is : (at count : ℕ) (by : ℤ) → (le_z (pos 0 -ℤ pos at) by && lt_z by (pos count -ℤ pos at)) ≡ stays at by count
-stays-is at count by = rw (le-shift 0 at by, lt-shift count at by)
 
 pub record Stayed (at : ℕ) (by : ℤ) (count : ℕ) : Type 0 where
   pub to : Plain (moved at by)
@@ -52,6 +50,23 @@ walked_on at east south h e f =
     let y = stayed at.place.row south (rows at.scale) f in
     record { scale = h.scale; in_rows = rw y.to.is y.in_count; in-columns = rw x.to.is x.in_count }
 
+-- a move off the line is refused of the step, the columns first
+pub off-columns : (at : Spot) (east south : ℤ) (why : Refusal) → moved_on at.place.column east (columns at.scale) ≡ on_paper why → walk at east south ≡ on_paper why
+unfolding walk
+off-columns at east south why e = refuses-so (refuse 6 unless stays at.place.column east (columns at.scale)) (nat_abs (moved at.place.column east)) _ why e
+
+pub off-rows : (at : Spot) (east south : ℤ) (why : Refusal) → stays at.place.column east (columns at.scale) ≡ true → moved_on at.place.row south (rows at.scale) ≡ on_paper why → walk at east south ≡ on_paper why
+unfolding walk
+off-rows at east south why h e = rw h (refuses-so (refuse 6 unless stays at.place.row south (rows at.scale)) (nat_abs (moved at.place.row south)) _ why e)
+
+pub moved-is : (at : ℕ) (by : ℤ) (count : ℕ) {to : ℕ} → moved_on at by count ≡ answer to → (stays at by count ≡ true) × (to ≡ nat_abs (moved at by))
+moved-is at by count e = let p = passed 6 (stays at by count) _ e in (p.0, sym (same_answer p.1))
+
+-- a step as a place of the block
+pub as-place : (r : Result ℕ Refusal) → result_ok r ≡ or_none (paper r)
+as-place (Ok n) = refl
+as-place (Err why) = rw ((on-paper why).is ℕ)
+
 -- a row of three, place by place
 pub three : {A : Type 0} {a b c x y z : A} → a ≡ x → b ≡ y → c ≡ z → a ∷ b ∷ c ∷ [] ≡ x ∷ y ∷ z ∷ []
 three e f g = λ i. e i ∷ f i ∷ g i ∷ []
@@ -62,6 +77,10 @@ three e f g = λ i. e i ∷ f i ∷ g i ∷ []
 module _ (n : ℕ) (h : is_sheet n ≡ true) (e : parent_scale (scale_of n) ≡ 0 → ⊥) where
   pub parent_in : index_of n / parts (scale_of n) < sheets (parent_scale (scale_of n))
   parent_in = (parent-indexed (ranged n h).scale e (index_of n) (indexed n h)).in-sheets
+
+  pub parent-is : parent n ≡ answer (first (parent_scale (scale_of n)) + index_of n / parts (scale_of n))
+  unfolding parent
+  parent-is = rw (h, le-leb 1 (parent_scale (scale_of n)) (omega arith))
 
   pub parent-low : first (parent_scale (scale_of n)) + index_of n / parts (scale_of n) < 7_953_174
   parent-low = omega (arith, parent_in, (rules (above (ranged n h).scale e)).low)
@@ -85,6 +104,10 @@ child-of s n number h z e =
       one = leb-true 1 number d.0;
       last = leb-true number (parts s) d.1;
     }
+
+-- by what the code asked before
+pub asked : {s n number up : ℕ} {sheet scale part : Bool} → sheet ≡ is_sheet n → sheet ≡ true → scale ≡ is_scale s → scale ≡ true → up ≡ scale_of n → part ≡ is_part s up number → part ≡ true → Child s n number
+asked {s} {n} {number} a b c d e f g = child-of s n number (is-a-scale s (sym c ∙ d)) (sym a ∙ b) (rw e at (sym f ∙ g))
 
 module _ {s n number : ℕ} (c : Child s n number) where
   pub child-deep : parent_scale s ≡ 0 → ⊥

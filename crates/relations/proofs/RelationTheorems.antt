@@ -14,8 +14,7 @@ use Rattle.refusal.specs.Paper.{Paper, answer, ◌>>=◌}
 use Rattle.refusal.proofs.PaperLaws.{passed, same_answer}
 use Rattle.division.specs.declared.Place.{Place}
 use Rattle.relations.specs.declared.Offset.{Offset}
-use Rattle.relations.specs.declared.Neighbour.{Neighbour}
-use Rattle.relations.specs.declared.Neighbour.TheVariants.{Sheet, None}
+use Rattle.std.specs.Prelude.{Option, Some, None}
 use Rattle.division.specs.Words.{◌≤?◌, between}
 use Rattle.division.specs.Table.{is_scale, width, height, rows, columns, parent_scale, side, parts, first}
 use Rattle.division.specs.Grid.{millimetres, within, edges_of}
@@ -214,12 +213,12 @@ stays_put n h =
     lands n (pos 0) (pos 0) (place_of n) h (on-grid n h) (ap pos (omega arith)) (ap pos (omega arith)) ∙ ap answer (sheet-place n h)
 
 -- "a block of three rows of three, the sheet itself in the middle, rows from the north, each from the west"
-abbrev there : ℕ → ℤ → ℤ → Neighbour
+abbrev there : ℕ → ℤ → ℤ → Option ℕ
 there n east south = or_none (step n east south)
 
 pub neighbours-are : (n : ℕ) → is_sheet n ≡ true → neighbours n ≡
     (there n (negsuc 0) (negsuc 0) ∷ there n (pos 0) (negsuc 0) ∷ there n (pos 1) (negsuc 0) ∷ []) ∷
-    (there n (negsuc 0) (pos 0) ∷ Sheet n ∷ there n (pos 1) (pos 0) ∷ []) ∷
+    (there n (negsuc 0) (pos 0) ∷ Some n ∷ there n (pos 1) (pos 0) ∷ []) ∷
     (there n (negsuc 0) (pos 1) ∷ there n (pos 0) (pos 1) ∷ there n (pos 1) (pos 1) ∷ []) ∷ []
 unfolding neighbours
 neighbours-are n h = rw (stays_put n h)

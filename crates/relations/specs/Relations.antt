@@ -1,11 +1,9 @@
 -- Parent, child, step, offset and neighbours. Document 01, "Relations".
-use Rattle.std.specs.Prelude.{ℕ, ◌+◌, ◌/◌, Bool, ◌&&◌, List, [], ◌∷◌, ℤ, pos, negsuc, nat_abs, ◌+ℤ◌, ◌-ℤ◌}
+use Rattle.std.specs.Prelude.{ℕ, ◌+◌, ◌/◌, Bool, ◌&&◌, List, [], ◌∷◌, ℤ, pos, negsuc, nat_abs, ◌+ℤ◌, ◌-ℤ◌, Option, Some, None}
 use Rattle.refusal.specs.Paper.{Paper, answer, refused, refuse◌unless◌, ◌>>◌}
 use Rattle.division.specs.declared.Place.{Place}
 use Rattle.division.specs.declared.Spot.{Spot}
 use Rattle.relations.specs.declared.Offset.{Offset}
-use Rattle.relations.specs.declared.Neighbour.{Neighbour}
-use Rattle.relations.specs.declared.Neighbour.TheVariants.{Sheet, None}
 use Rattle.division.specs.Words.{◌≤?◌, ◌=?◌, ◌≤ᶻ◌, ◌<ᶻ◌, between}
 use Rattle.division.specs.Table.{is_scale, rows, columns, first, parent_scale, parts}
 use Rattle.division.specs.Sheet.{is_sheet, scale_of, index_of, part_index, place_of, spot_of, sheet_of}
@@ -67,13 +65,13 @@ offset a b = do
   offset_from (spot_of a) b
 
 -- "places off the grid marked as none. For a refused sheet all nine are none"
-abbrev pub or_none : Paper ℕ → Neighbour
-or_none (answer n) = Sheet n
+abbrev pub or_none : Paper ℕ → Option ℕ
+or_none (answer n) = Some n
 or_none (refused number value) = None
 
 -- "a block of three rows of three, the sheet itself in the middle, rows from the north, each from the west"
-abbrev pub neighbour_row : ℕ → ℤ → List Neighbour
+abbrev pub neighbour_row : ℕ → ℤ → List (Option ℕ)
 neighbour_row n south = or_none (step n (negsuc 0) south) ∷ or_none (step n (pos 0) south) ∷ or_none (step n (pos 1) south) ∷ []
 
-unfoldable pub neighbours : ℕ → List (List Neighbour)
+unfoldable pub neighbours : ℕ → List (List (Option ℕ))
 neighbours n = neighbour_row n (negsuc 0) ∷ neighbour_row n (pos 0) ∷ neighbour_row n (pos 1) ∷ []

@@ -1,8 +1,6 @@
 // Parent, child, step, offset and neighbours of a sheet (document 01, "Relations"); the cover of a window is in division.
 #![tactic(auto)]
 
-use refusal::Refusal;
-
 pub mod kin;
 
 // Columns east and rows south.
@@ -10,16 +8,4 @@ pub mod kin;
 pub struct Offset {
     pub east: i64,
     pub south: i64,
-}
-
-#[derive(Clone, Copy)]
-pub enum Apart {
-    By(Offset),
-    Refused(Refusal),
-}
-
-#[derive(Clone, Copy)]
-pub enum Neighbour {
-    Sheet(u32),
-    None,
 }

@@ -1,7 +1,7 @@
 // The row of a line: its number, then the sheet and its edges, or the refusal.
 ghost use Rattle.std.specs.Prelude.{◌≡◌, [], ◌∷◌, ◌++◌, ℕ, ◌+◌, ◌/◌, ◌%◌, ◌≤◌, ◌<◌, length};
 ghost use Rattle.refusal.specs.Paper.{answer, counted, room_after};
-ghost use Rattle.refusal.specs.Numbers.{on_paper, laid_paper};
+ghost use Rattle.refusal.specs.Numbers.{on_paper, paper};
 ghost use Rattle.refusal.specs.Given.{Wrote};
 ghost use Rattle.division.specs.Given.{Hundreds, InHundreds};
 ghost use Rattle.label.specs.Text.{decimal};
@@ -12,18 +12,10 @@ ghost use Rattle.rows.specs.Given.{spaced, pair, bytes_in};
 
 use catalogue::line::read_ground;
 use division::Edges;
-use reading::Fronted;
-use refusal::{Laid, Refusal, lay};
+use refusal::{Refusal, put, put_byte};
 
-// Each of the functions that put something into room gives the place behind it.
-fn put_byte(b: u8, out: &mut [u8], at: usize) -> usize
-    requires { at < length out.old }
-    ensures { Wrote out.old at out.new result (b ∷ []) }
-{
-    out[at] = b;
-    at + 1
-}
-
+// Each of the functions that put something into room takes the room and a place, and gives the place behind it. A writer that holds both is
+// proved as well, but a line's row then takes a quarter more instructions: each store has the next read the place again.
 // Two digits.
 fn put_pair(v: u64, out: &mut [u8], at: usize) -> usize
     requires { Small 100 v 2 at (length out.old) }
@@ -115,10 +107,7 @@ fn put_number(n: u64, out: &mut [u8], at: usize) -> usize
     requires { at + length (decimal n) ≤ length out.old }
     ensures { Wrote out.old at out.new result (decimal n) }
 {
-    if n < 10_000 {
-        return put_any(n, out, at);
-    }
-    if 99_999_999 < n {
+    if !(10_000..100_000_000).contains(&n) {
         return put_any(n, out, at);
     }
     let a = put_short(n / 10_000, out, at);
@@ -202,13 +191,13 @@ fn put_refusal(why: Refusal, out: &mut [u8], at: usize) -> usize
     ensures wrote { Wrote out.old at out.new result (spaced (words (on_paper why))) }
     ensures upper_bound { result ≤ at + 40 }
 {
-    lay(b" refused", &mut out[at..]);
     let told = why.numbered();
-    let a = put_spaced(told.0 as u64, out, at + 8);
-    if !told.2 {
-        return a;
+    let a = put(b" refused", out, at);
+    let b = put_spaced(told.number as u64, out, a);
+    match told.value {
+        Some(value) => put_spaced(value as u64, out, b),
+        None => b,
     }
-    put_spaced(told.1 as u64, out, a)
 }
 
 // The rest of a row: the sheet and its edges, or the refusal, each word behind a space.
@@ -218,22 +207,22 @@ fn put_answer(line: &[u8], out: &mut [u8], at: usize) -> usize
     ensures upper_bound { result ≤ at + 40 }
 {
     match read_ground(line) {
-        Fronted::Refused(why) => put_refusal(why, out, at),
-        Fronted::Label(front) => put_ground(front.sheet, front.corners, out, at),
+        Ok(front) => put_ground(front.sheet, front.corners, out, at),
+        Err(why) => put_refusal(why, out, at),
     }
 }
 
 // Lays the row of a line into lent room, of which it asks for 64 bytes: enough for any row, and it has no more itself.
-pub fn row(line: &[u8], number: u64, room: &mut [u8]) -> Laid
-    ensures result_value { laid_paper result ≡ counted (lay_row number line.now (length room.old)) }
+pub fn row(line: &[u8], number: u64, room: &mut [u8]) -> Result<usize, Refusal>
+    ensures result_value { paper result ≡ counted (lay_row number line.now (length room.old)) }
     ensures room_after { room.new ≡ room_after (lay_row number line.now (length room.old)) room.old }
-    ensures by_index { (n : ℕ) → laid_paper result ≡ answer n → n ≤ 64 }
+    ensures by_index { (n : ℕ) → paper result ≡ answer n → n ≤ 64 }
 {
     if room.len() < 64 {
-        return Laid::Refused(Refusal::Room(64));
+        return Err(Refusal::Room(64));
     }
     let a = put_number(number, room, 0);
     let b = put_answer(line, room, a);
     let end = put_byte(b'\n', room, b);
-    Laid::Items(end)
+    Ok(end)
 }

@@ -12,11 +12,11 @@ use lib.Dec.{eqb, leb}
 use lib.ListN.{length, get_or, take, drop, length-append, length-take, length-drop}
 use lib.Seq.{take_at, take_all, drop-append-add, drop-drop, length-take-le}
 use Rattle.refusal.specs.declared.Refusal.{Refusal}
-use Rattle.refusal.specs.Paper.{answer, is_answer, counted, room_after}
+use Rattle.refusal.specs.Paper.{is_answer, counted}
 use Rattle.refusal.specs.Numbers.{on_paper}
 use Rattle.refusal.specs.Given.{Wrote}
-use Rattle.refusal.proofs.PaperLaws.{same_answer, no_answer}
-use Rattle.refusal.proofs.WroteLaws.{then, same-long, wrote_none, wrote-part, rest-is}
+use Rattle.refusal.proofs.PaperLaws.{no_answer}
+use Rattle.refusal.proofs.WroteLaws.{then, same-long, wrote_none, rest-is}
 use Rattle.label.specs.Text.{join}
 use Rattle.label.proofs.SplitLaws.{Free, split-piece, split-last, join-split}
 use Rattle.rows.specs.Row.{output_line, lay_row}
@@ -136,12 +136,6 @@ module _ (d : List ℕ) (at : ℕ) (line : List ℕ) (number : ℕ) (h : at + 64
 
   roomy : leb 64 (length lent) ≡ true
   roomy = le-leb 64 (length lent) (omega (arith, length-take (length d - at) (drop at d), length-drop at d))
-
-  pub row_put : {x : List ℕ} {long : ℕ} → long ≤ 64 → answer long ≡ counted (lay_row number line (length lent)) → x ≡ room_after (lay_row number line (length lent)) lent
-      → Wrote d at (take at d ++ (x ++ drop (length d - at) (drop at d))) (at + long) (output_line number line)
-  row_put few e f =
-      let n = same_answer (rw roomy at e) in
-      rw n (wrote-part d at (omega arith) (rw roomy at f))
 
   pub row_fits : (why : Refusal) → on_paper why ≡ counted (lay_row number line (length lent)) → ⊥
   row_fits why e =

@@ -2,54 +2,25 @@
 use mathlib.Core.Path.{◌≡◌, refl, sym, ap, ◌∙◌}
 use mathlib.Core.Bool.{Bool, true, false, cond, ◌&&◌}
 use mathlib.Core.List.{List, [], ◌++◌, append_assoc, append-nil}
-use mathlib.Core.Logic.{⊎_elim}
-use Prim.Native.Nat.{ℕ, ◌+◌, ◌-◌, ◌*◌, ◌≤◌, ◌<◌, ◌^◌, min}
-use native.Mathlib.Nat.{add-zero}
+use Prim.Native.Nat.{ℕ, ◌+◌, ◌-◌, ◌*◌, ◌≤◌, ◌<◌, ◌^◌}
 use native.Mathlib.Omega.{arith}
 use borrow.Author.Tests.{le-leb, eqb-true, eqb-false}
 use lib.ListN.{length, take, drop, length-append, length-drop, take-append-drop, drop_of_length-le}
 use lib.Seq.{take_at, take-append_seam, drop-append-le, drop-drop, length-take-le}
-use Rattle.refusal.specs.Given.{Wrote}
-use Rattle.refusal.proofs.WroteLaws.{same-long, wrote_none}
+use Rattle.refusal.proofs.WroteLaws.{same-long}
 use Rattle.division.specs.Words.{◌=?◌}
-use Rattle.division.proofs.TestLaws.{both, le-or-less}
+use Rattle.division.proofs.TestLaws.{both}
 use Rattle.label.proofs.SplitLaws.{Free}
 use Rattle.run.specs.declared.turn.State.{State}
 use Rattle.run.specs.declared.print.Took.{Took}
 use Rattle.run.specs.Program.{line_of, lines_of, output_from, printed}
-use Rattle.run.specs.Run.{Turn, start, goes_on, held_with, stopped, turn_of, poured, tally}
+use Rattle.run.specs.Run.{Turn, start, goes_on, held_with, stopped, turn_of}
 use Rattle.run.specs.Given.{Brought}
 use Rattle.run.proofs.PrintTheorems.{last-counts}
 use Rattle.run.proofs.SinkLaws.{Pours, Sunk, sunk-none, sunk-more}
 use Rattle.run.proofs.TurnLaws.{Turned, held_by, after, Calm, unasked, Onward, turn-ends, turn_on, turn-written}
 
 -- ---- a read
-
-module _ (input : List ℕ) (a : ℕ) (s : State) (buf : List ℕ) (h : (a ≤ length input) × ((s.end ≤ length buf) × (s.wants ≡ true → s.end < length buf))) where
-  pub brought-none : s.wants ≡ false → Brought input a s buf buf 0
-  brought-none w = record {
-    inside = omega (arith, h.0);
-    wrote = rw (add-zero s.end) (wrote_none buf s.end h.1.0);
-    idle = λ e. refl;
-    ended = λ e z. let y : ◌≡◌ {A = ℕ} 0 1 = cc in absurd (omega arith);
-  }
-
-  pub brought-some : {b : List ℕ} {most n r : ℕ} → s.wants ≡ true → most ≡ min (length input - a) (length buf - s.end) → (n ≤ most) × (1 ≤ most → 1 ≤ n)
-      → Wrote buf s.end b r (take (a + n - a) (drop a input)) → Brought input a s buf b n
-  brought-some {b} {most} {n} {r} w m k v =
-      let e : a + n - a ≡ n = omega arith in
-      let x = rw e at v in
-      let long = length-take-le n (drop a input) (omega (arith, length-drop a input, k.0)) in
-      let z : r ≡ s.end + n = x.end ∙ ap (λ (l : ℕ). s.end + l) long in
-      record {
-        inside = omega (arith, h.0, k.0);
-        wrote = rw z at x;
-        idle = λ f. let y : ◌≡◌ {A = ℕ} 0 1 = cc in absurd (omega arith);
-        ended = λ f z. by f z;
-      }
-    where
-      by : s.wants ≡ true → n ≡ 0 → a ≡ length input
-      by f z = ⊎_elim (λ l. omega (arith, h.0)) (λ l. absurd (omega (arith, h.1.1 f, k.1 (omega (arith, h.1.1 f))))) (le-or-less (length input) a)
 
 -- what was read stands behind what was held
 module _ {input : List ℕ} {a : ℕ} {s : State} {buf b : List ℕ} {r : ℕ} (k : Brought input a s buf b r) (rises : s.from ≤ s.end) (within : s.end ≤ length buf) where
@@ -208,7 +179,3 @@ module _ {input sink₀ : List ℕ} {size room : ℕ} {buf out sink : List ℕ} 
         by : (c : Bool) → (s.wants && r =? 0) ≡ c → Pours t.rows p sink sink' q → Running input sink₀ size room (after t b) out' sink' t.next q (a + r)
         by true e v = step_end e v out' (n ∙ g.same_out)
         by false e v = step-on e v out' (n ∙ g.same_out) (ap length (sym m.1.0) ∙ l ∙ size-b)
-
-pub run_end : {input sink₀ : List ℕ} {size room : ℕ} {buf out sink : List ℕ} {s : State} {p : Took} {a : ℕ} → Running input sink₀ size room buf out sink s p a → s.over ≡ true
-    → (p ≡ tally (printed input) (length sink₀)) × (sink ≡ poured (printed input) sink₀)
-run_end {input = input} g h = let e : printed input ≡ g.sofar = g.whole ∙ rw (h, append-nil) in rw e (g.sunk.told, g.sunk.same)

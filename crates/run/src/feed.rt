@@ -6,7 +6,6 @@ ghost use Rattle.run.specs.Program.{pieces};
 ghost use Rattle.run.specs.Given.{IsFed};
 
 use fault::piece::piece_end;
-use refusal::Laid;
 use rows::row::row;
 
 // What was made of a block: the bytes of it that were used, the bytes written, and the lines that have their rows.
@@ -23,11 +22,7 @@ fn put_row(line: &[u8], number: u64, out: &mut [u8], at: usize) -> usize
     ensures wrote { Wrote out.old at out.new result (output_line number line.now) }
     ensures upper_bound { result ≤ at + 64 }
 {
-    let laid = row(line, number, &mut out[at..]);
-    match laid {
-        Laid::Items(long) => at + long,
-        Laid::Refused(_) => at,
-    }
+    at + row(line, number, &mut out[at..]).unwrap()
 }
 
 // Where the first line of a block ends: with the block, where that is one line, and otherwise at its first line feed.
@@ -49,18 +44,21 @@ fn make_rows(block: &[u8], whole: bool, number: u64, out: &mut [u8]) -> Fed
     ensures wrote { whole ≡ true → Wrote out.old 0 out.new result.written (output_line number block.now) }
 {
     let most = out.len() / 64;
-    let mut a: usize = 0;
-    let mut at: usize = 0;
-    let mut i: usize = 0;
-    while i < most {
-        let rest = &block[a..];
+    let mut used: usize = 0;
+    let mut written: usize = 0;
+    for lines in 0..most {
+        let rest = &block[used..];
         let e = line_end(rest, whole);
         let open = (e == rest.len()) & !whole;
         if open {
-            break;
+            return Fed {
+                used,
+                written,
+                lines,
+            };
         }
-        let n = number + i as u64;
-        let end = put_row(&rest[..e], n, out, at);
+        let n = number + lines as u64;
+        let end = put_row(&rest[..e], n, out, written);
         if whole {
             return Fed {
                 used: e,
@@ -68,14 +66,13 @@ fn make_rows(block: &[u8], whole: bool, number: u64, out: &mut [u8]) -> Fed
                 lines: 1,
             };
         }
-        at = end;
-        a = a + e + 1;
-        i += 1;
+        written = end;
+        used += e + 1;
     }
     Fed {
-        used: a,
-        written: at,
-        lines: i,
+        used,
+        written,
+        lines: most,
     }
 }
 

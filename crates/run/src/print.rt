@@ -6,8 +6,8 @@ ghost use Rattle.run.specs.Program.{printed};
 ghost use Rattle.run.specs.Run.{poured, tally};
 ghost use Rattle.run.specs.Given.{Brought};
 
-use crate::turn::{State, begin, least, turn};
-use refusal::lay;
+use crate::turn::{State, begin, turn};
+use refusal::put;
 
 // How much of an output a sink took, and whether that was all of it.
 #[derive(Clone, Copy)]
@@ -26,9 +26,9 @@ fn wished(lengths: &[usize], a: usize, most: usize) -> usize
     }
     let n = lengths[a];
     if n == 0 {
-        return least(1, most);
+        return most.min(1);
     }
-    least(n, most)
+    n.min(most)
 }
 
 // A read: where input is wanted, the next bytes of it are copied behind what the buffer holds.
@@ -42,10 +42,9 @@ fn bring(input: &[u8], lengths: &[usize], a: usize, buf: &mut [u8], s: State) ->
         return 0;
     }
     let end = s.end;
-    let most = least(input.len() - a, buf.len() - end);
+    let most = (input.len() - a).min(buf.len() - end);
     let n = wished(lengths, a, most);
-    let e = a + n;
-    lay(&input[a..e], &mut buf[end..]);
+    put(&input[a..a + n], buf, end);
     n
 }
 
@@ -57,10 +56,9 @@ fn pour(bytes: &[u8], sink: &mut [u8], p: Took) -> Took
 {
     let at = p.written;
     let left = sink.len() - at;
-    let n = least(left, bytes.len());
-    lay(&bytes[..n], &mut sink[at..]);
+    let n = left.min(bytes.len());
     Took {
-        written: at + n,
+        written: put(&bytes[..n], sink, at),
         whole: p.whole & (bytes.len() <= left),
     }
 }

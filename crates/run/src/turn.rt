@@ -8,7 +8,7 @@ ghost use Rattle.run.specs.Program.{line_of, output_from};
 ghost use Rattle.run.specs.Run.{start, goes_on, turn_of};
 
 use crate::feed::{feed, put_whole};
-use refusal::lay;
+use refusal::put;
 
 // What a run goes by between two turns: the bytes of the buffer that have no row yet, from `from` up to `end`; the number of their first
 // line; how many bytes of the room are to be written; whether input is wanted, which is to be read behind `end`; and whether the run is over.
@@ -43,12 +43,6 @@ fn goes_on(size: usize, room: usize, number: u64) -> bool
     ((67 <= size) & (64 <= room)) & (number <= u64::MAX - size as u64)
 }
 
-pub(crate) fn least(a: usize, b: usize) -> usize
-    ensures { result ≡ min a b }
-{
-    if a < b { a } else { b }
-}
-
 // The place behind what was read, within the buffer.
 fn reach(end: usize, got: usize, size: usize) -> usize
     ensures { result ≡ min (end + got) size }
@@ -56,7 +50,7 @@ fn reach(end: usize, got: usize, size: usize) -> usize
     if size <= end {
         return size;
     }
-    end + least(got, size - end)
+    end + got.min(size - end)
 }
 
 // The row of a last line that no line feed ends; nothing where there is no line.
@@ -65,7 +59,7 @@ fn last(line: &[u8], number: u64, out: &mut [u8]) -> usize
     requires in_bounds { 64 ≤ length out.old }
     ensures { Wrote out.old 0 out.new result (output_from number (line_of line.now)) }
 {
-    if line.len() == 0 {
+    if line.is_empty() {
         return 0;
     }
     put_whole(line, number, out)
@@ -78,12 +72,10 @@ fn keep(buf: &mut [u8], a: usize, n: usize) -> usize
     requires n_in_bounds { n ≤ length buf.old }
     ensures { Wrote buf.old 0 buf.new result (take 66 (slice a n buf.old)) }
 {
-    let k = least(66, n - a);
-    let e = a + k;
+    let k = (n - a).min(66);
     let mut line = [0u8; 66];
-    lay(&buf[a..e], &mut line);
-    lay(&line[..k], buf);
-    k
+    put(&buf[a..a + k], &mut line, 0);
+    put(&line[..k], buf, 0)
 }
 
 // One turn: `got` bytes were read behind what the buffer holds, or none where none were wanted.
@@ -99,20 +91,20 @@ pub fn turn(buf: &mut [u8], got: usize, s: State, out: &mut [u8]) -> State
         return State {
             from: 0,
             end: 0,
-            number: number,
+            number,
             written: 0,
             wants: false,
             over: true,
         };
     }
     let end = reach(s.end, got, buf.len());
-    let from = least(s.from, end);
+    let from = s.from.min(end);
     if s.wants & (got == 0) {
         let row = last(&buf[from..end], number, out);
         return State {
             from: 0,
             end: 0,
-            number: number,
+            number,
             written: row,
             wants: false,
             over: true,
@@ -125,7 +117,7 @@ pub fn turn(buf: &mut [u8], got: usize, s: State, out: &mut [u8]) -> State
     if out.len() / 64 <= fed.lines {
         return State {
             from: rest,
-            end: end,
+            end,
             number: next,
             written: rows,
             wants: false,

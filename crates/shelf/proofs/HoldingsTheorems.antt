@@ -16,10 +16,8 @@ use Rattle.division.proofs.TestLaws.{le-or-less}
 use Rattle.holding.specs.Holding.{sheet_in, product_in, Unstated}
 use Rattle.holding.proofs.HoldingLaws.{fine, sheet-is}
 use Rattle.holding.proofs.HoldingTheorems.{holding-passes, unstated}
-use Rattle.shelf.specs.declared.kind.Kind as code
-use Rattle.shelf.specs.declared.kind.Kind.TheVariants.{Sheets, Holdings}
 use Rattle.shelf.specs.Number.{Number, groups_of, number_bytes, read_number}
-use Rattle.shelf.specs.Kind.{Kind, of_sheets, of_holdings, kind_of}
+use Rattle.shelf.specs.Kind.{Kind, of_sheets, of_holdings, kind_of, KindName, Sheets, Holdings}
 use Rattle.shelf.specs.Writing.{bytes_in, set_in, wholly_in}
 use Rattle.shelf.specs.Reading.{Reading, stop, ◌then_read◌, behind_in, read_in, kind_told, each_as, read_holdings}
 use Rattle.shelf.proofs.KindLaws.{works, sheet-fine, sheets-over, holdings-over, told-old, told-new, kind-told}
@@ -30,7 +28,7 @@ use Rattle.shelf.proofs.ListTheorems.{set-passes, passes-set, placed-set, placed
 
 -- ---- the holdings that numbers stand for
 
-module _ (kind : code.Kind) where
+module _ (kind : KindName) where
   -- the numbers of a list as holdings
   abbrev pub stand : List ℕ → List ℕ
   stand numbers = map (kind_of kind).holds numbers
@@ -39,14 +37,14 @@ module _ (kind : code.Kind) where
   holds-fine : (n : ℕ) → (kind_of kind).judge 3 n ≡ answer tt → of_holdings.judge 3 ((kind_of kind).holds n) ≡ answer tt
   holds-fine n e = by kind e
     where
-      by : (k : code.Kind) → (kind_of k).judge 3 n ≡ answer tt → of_holdings.judge 3 ((kind_of k).holds n) ≡ answer tt
+      by : (k : KindName) → (kind_of k).judge 3 n ≡ answer tt → of_holdings.judge 3 ((kind_of k).holds n) ≡ answer tt
       by Sheets e = holding-passes n 0 _ 3 (unstated n (passed-test 3 (is_sheet n) e))
       by Holdings e = e
 
   holds-rise : (a b : ℕ) → a < b → (kind_of kind).holds a < (kind_of kind).holds b
   holds-rise a b l = by kind
     where
-      by : (k : code.Kind) → (kind_of k).holds a < (kind_of k).holds b
+      by : (k : KindName) → (kind_of k).holds a < (kind_of k).holds b
       by Sheets = omega arith
       by Holdings = l
 
@@ -113,10 +111,10 @@ pub new-read : (bytes : List ℕ) (room : ℕ) (first : Number) → read_number 
 new-read bytes room first e l = new-reader of_holdings bytes room (λ other f. told-new other.value (omega (arith, ap (λ (n : Number). n.value) (same_answer (sym f ∙ e)))))
 
 -- so it reads as the reader of one of the kinds
-pub read_as : (bytes : List ℕ) (room : ℕ) → (kind : code.Kind) × (read_holdings bytes room ≡ each_as (kind_of kind).holds (read_in (kind_of kind) bytes room))
+pub read_as : (bytes : List ℕ) (room : ℕ) → (kind : KindName) × (read_holdings bytes room ≡ each_as (kind_of kind).holds (read_in (kind_of kind) bytes room))
 read_as bytes room = by (read_number bytes) refl
   where
-    by : (p : Paper Number) → read_number bytes ≡ p → (kind : code.Kind) × (read_holdings bytes room ≡ each_as (kind_of kind).holds (read_in (kind_of kind) bytes room))
+    by : (p : Paper Number) → read_number bytes ≡ p → (kind : KindName) × (read_holdings bytes room ≡ each_as (kind_of kind).holds (read_in (kind_of kind) bytes room))
     by (refused n v) e = (Sheets, old-read bytes room (λ first f. absurd (differs (sym f ∙ e))))
     by (answer first) e =
         ⊎_elim
@@ -137,7 +135,7 @@ module _ (bytes : List ℕ) (room : ℕ) where
 
 -- ---- a list of either kind, whole or cut
 
-module _ (kind : code.Kind) (xs : List ℕ) (e : set_in (kind_of kind) xs ≡ answer tt) where
+module _ (kind : KindName) (xs : List ℕ) (e : set_in (kind_of kind) xs ≡ answer tt) where
   -- what begins with its first number tells the kind
   tells : (bytes rest : List ℕ) → bytes ≡ number_bytes ((kind_of kind).begins (length xs)) ++ rest → (first : Number) → read_number bytes ≡ answer first → kind_told first.value ≡ kind_of kind
   tells bytes rest split first f =
@@ -168,7 +166,7 @@ module _ (kind : code.Kind) (xs : List ℕ) (e : set_in (kind_of kind) xs ≡ an
 -- ---- what the new reader accepts was written, in one of the two kinds
 
 pub record Taken (bytes : List ℕ) (room : ℕ) (placed : List ℕ) : Type 0 where
-  pub kind : code.Kind
+  pub kind : KindName
   pub numbers : List ℕ
   pub accepted : Accepted (kind_of kind) bytes room numbers
   pub stands : placed ≡ stand kind numbers

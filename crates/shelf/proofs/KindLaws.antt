@@ -1,21 +1,17 @@
 -- What the laws of lists ask of a kind, and that both kinds have it: its numbers are small, and a count and its first number tell each
 -- other. And the first number tells the kind. Assumes nothing.
-use mathlib.Core.Path.{◌≡◌, refl, ap, ◌∙◌}
-use mathlib.Core.Bool.{Bool, true, false, and-false}
+use mathlib.Core.Path.{◌≡◌, ap}
+use mathlib.Core.Bool.{true, and-false}
 use Prim.Native.Nat.{ℕ, ◌+◌, ◌-◌, ◌^◌, ◌≤◌, ◌<◌}
 use native.Mathlib.Omega.{arith}
 use borrow.Author.Tests.{le-leb, lt-leb, leb-true}
 use Rattle.refusal.specs.Paper.{answer, refused}
-use Rattle.refusal.proofs.PaperLaws.{passed, passed-test, same_answer, Told, read, read-refusal}
+use Rattle.refusal.proofs.PaperLaws.{passed, passed-test, same_answer}
 use Rattle.division.specs.Words.{◌≤?◌, between}
 use Rattle.division.specs.Sheet.{is_sheet}
 use Rattle.division.proofs.TestLaws.{between_in, in_between}
 use Rattle.holding.proofs.HoldingLaws.{fine, is-fine}
-use Rattle.shelf.specs.declared.kind.Kind as code
-use Rattle.shelf.specs.declared.kind.Kind.TheVariants.{Sheets, Holdings}
-use Rattle.shelf.specs.declared.kind.Count.{Count}
-use Rattle.shelf.specs.declared.kind.Count.TheVariants.{Numbers, Refused}
-use Rattle.shelf.specs.Kind.{Kind, of_sheets, of_holdings, kind_of, count_paper}
+use Rattle.shelf.specs.Kind.{Kind, of_sheets, of_holdings, KindName, Sheets, Holdings, kind_of}
 use Rattle.shelf.specs.Reading.{kind_told}
 
 pub record Works (kind : Kind) : Type 0 where
@@ -31,9 +27,6 @@ pub record Works (kind : Kind) : Type 0 where
 
 pub sheet-fine : (past n : ℕ) → is_sheet n ≡ true → of_sheets.judge past n ≡ answer tt
 sheet-fine past n is = rw is
-
-pub sheet-past : (past n : ℕ) → is_sheet n ≡ false → of_sheets.judge past n ≡ refused past 0
-sheet-past past n is = rw is
 
 pub sheets-count : (n : ℕ) → n ≤ 4_096 → of_sheets.count n ≡ answer n
 sheets-count n few = rw (le-leb n 4_096 few)
@@ -68,23 +61,11 @@ holdings-work = record {
   alike = λ a b n e. is-fine b n (fine a n e);
 }
 
--- ---- each kind, by the code's word
+-- ---- each kind, by its name
 
-pub works : (kind : code.Kind) → Works (kind_of kind)
+pub works : (kind : KindName) → Works (kind_of kind)
 works Sheets = sheets-work
 works Holdings = holdings-work
-
--- "0 to 4 096 or 8 192 to 12 288": the first numbers of a kind
-abbrev begins? : code.Kind → ℕ → Bool
-begins? kind first = between ((kind_of kind).begins 0) ((kind_of kind).begins 4_096) first
-
-pub count-told : (kind : code.Kind) (first : ℕ) → begins? kind first ≡ true → (kind_of kind).count first ≡ answer (first - (kind_of kind).begins 0)
-count-told Sheets first e = sheets-count first (between_in 0 4_096 first e).1 ∙ ap answer (omega arith)
-count-told Holdings first e = rw e
-
-pub count_none : (kind : code.Kind) (first : ℕ) → begins? kind first ≡ false → (kind_of kind).count first ≡ refused 12 0
-count_none Sheets first e = let t : (first ≤? 4_096) ≡ false = rw (le-leb 0 first (omega arith)) at e in rw t
-count_none Holdings first e = rw e
 
 -- ---- the kind that a first number tells
 
@@ -96,15 +77,6 @@ pub told-new : (first : ℕ) → 8_192 ≤ first → kind_told first ≡ of_hold
 unfolding kind_told
 told-new first l = rw (le-leb 8_192 first l)
 
-pub kind-told : (kind : code.Kind) (n : ℕ) → n ≤ 4_096 → kind_told ((kind_of kind).begins n) ≡ kind_of kind
+pub kind-told : (kind : KindName) (n : ℕ) → n ≤ 4_096 → kind_told ((kind_of kind).begins n) ≡ kind_of kind
 kind-told Sheets n few = told-old n (omega arith)
 kind-told Holdings n few = told-new (8_192 + n) (omega arith)
-
--- ---- one answer of the count
-
-pub counted-told : Told count_paper
-counted-told = record { back = read Numbers Refused; again = again }
-  where
-    again : (c : Count) → read Numbers Refused (count_paper c) ≡ c
-    again (Numbers n) = refl
-    again (Refused why) = read-refusal Numbers Refused why

@@ -1,26 +1,27 @@
 -- A list is read entry by entry: what was placed and what is left to read make the whole. Assumes nothing.
 use mathlib.Core.Path.{◌≡◌, refl, sym, ap, ap₂, ◌∙◌, subst}
+use mathlib.Core.Bool.{true, false}
 use mathlib.Core.List.{List, [], ◌∷◌, map}
 use Prim.Native.Nat.{ℕ, zero, suc, ◌+◌, ◌-◌, ◌*◌, ◌^◌, ◌≤◌, ◌<◌}
-use native.Mathlib.Nat.{zero-add, add-zero, sub-zero, one-mul, lt_of_le_of_lt, mul-le-mul_right}
+use native.Mathlib.Nat.{zero-add, add-zero, one-mul}
 use native.Mathlib.Numerals.{add-one, sub-one}
 use native.Mathlib.Omega.{arith}
-use borrow.Author.Tests.{le-leb, lt-leb, ne_eqb}
-use lib.ListN.{length, drop, set, length-set, length-drop}
+use borrow.Author.Tests.{le-leb, lt-leb}
+use lib.ListN.{length, set, length-set}
 use lib.Seq.{sets, sets-eq}
+use Rattle.std.specs.Prelude.{Result, Ok, Err}
 use Rattle.refusal.specs.Paper.{Paper, answer, refused}
-use Rattle.refusal.specs.Numbers.{on_paper}
+use Rattle.refusal.specs.Numbers.{on_paper, paper}
 use Rattle.refusal.specs.declared.Refusal.{Refusal}
 use Rattle.refusal.specs.declared.Refusal.TheVariants.{MoreBytes}
 use Rattle.refusal.proofs.PaperLaws.{on-paper, differs}
-use Rattle.shelf.specs.declared.number.Next.TheVariants as next
-use Rattle.shelf.specs.declared.Ended.{Ended}
-use Rattle.shelf.specs.declared.Ended.TheVariants.{Whole, Refused}
+use denote.Ref.{Bor}
 use Rattle.shelf.specs.declared.Read.{Read}
+use Rattle.division.specs.Words.{◌=?◌}
 use Rattle.shelf.specs.Number.{Number, read_number}
 use Rattle.shelf.specs.Kind.{Kind, of_sheets, of_holdings}
-use Rattle.shelf.specs.Reading.{Reading, stop, place_then, ◌then_read◌, entries_in, behind_in, read_in, kind_told, each_as, read_holdings, room_after_read, ended_paper, IsRead}
-use Rattle.shelf.specs.Given.{IsNext}
+use Rattle.shelf.specs.Reading.{Reading, stop, place_then, ◌then_read◌, entries_in, behind_in, read_in, kind_told, each_as, read_holdings, room_after_read, IsRead}
+use Rattle.shelf.specs.Given.{IsEntry}
 use Rattle.shelf.proofs.KindLaws.{Works, told-old, told-new}
 
 -- a refusal stops the reading
@@ -40,11 +41,11 @@ went_on (refused n v) next e = absurd (differs (sym e))
 -- ---- entries from a place on
 
 module _ (kind : Kind) (bytes : List ℕ) (least : ℕ) where
-  pub entries_over : (k : ℕ) → k ≡ 0 → 0 < length bytes → entries_in kind k least bytes ≡ stop (refused 14 0)
+  pub entries_over : (k : ℕ) → k ≡ 0 → (length bytes =? 0) ≡ false → entries_in kind k least bytes ≡ stop (refused 14 0)
   unfolding entries_in
-  entries_over k z h = rw (z, ne_eqb (length bytes) 0 (λ e. omega arith))
+  entries_over k z h = rw (z, h)
 
-  pub entries-whole : (k : ℕ) → k ≡ 0 → length bytes ≡ 0 → entries_in kind k least bytes ≡ stop (answer tt)
+  pub entries-whole : (k : ℕ) → k ≡ 0 → (length bytes =? 0) ≡ true → entries_in kind k least bytes ≡ stop (answer tt)
   unfolding entries_in
   entries-whole k z h = rw (z, h)
 
@@ -63,6 +64,18 @@ module _ (kind : Kind) (bytes : List ℕ) (least : ℕ) where
     unfolding entries_in
     entries-place zero p f = absurd (omega arith)
     entries-place (suc k) p f = rw (e, f, sub-one (suc k))
+
+-- one entry: its gap is read, and its number judged
+module _ (kind : Kind) (bytes : List ℕ) (least : ℕ) where
+  pub entry_unread : (why : Refusal) → on_paper why ≡ read_number bytes → IsEntry kind bytes least (Err why)
+  entry_unread why e = λ k p. entries-refused kind bytes least k why p (sym e)
+
+  module _ (gap : ℕ) (behind : Bor (List ℕ)) (e : answer (record { value = gap; rest = behind.now }) ≡ read_number bytes) where
+    pub entry-judged : (why : Refusal) → kind.judge 13 (least + gap) ≡ on_paper why → IsEntry kind bytes least (Err why)
+    entry-judged why f = λ k p. entries-judged kind bytes least gap behind.now (sym e) k why p f
+
+    pub entry-placed : Works kind → kind.judge 13 (least + gap) ≡ answer tt → IsEntry kind bytes least (Ok (least + gap, behind))
+    entry-placed w f = (λ k p. entries-place kind bytes least gap behind.now (sym e) k p f, w.fine-small 13 (least + gap) f)
 
 -- ---- the first number, and the count that it tells
 
@@ -133,7 +146,7 @@ abbrev pub Reads : Reading → List ℕ → List ℕ → Read → Type 0
 Reads reading old new r = IsRead reading r × (new ≡ room_after_read reading old)
 
 -- nothing placed
-pub reads_none : {reading : Reading} {ended : Paper Unit} {r : Read} (old : List ℕ) (e : Ended) → r ≡ record { ended = e; placed = 0 } → reading ≡ stop ended → ended_paper e ≡ ended → Reads reading old old r
+pub reads_none : {reading : Reading} {ended : Paper Unit} {r : Read} (old : List ℕ) (e : Result Unit Refusal) → r ≡ record { ended = e; placed = 0 } → reading ≡ stop ended → paper e ≡ ended → Reads reading old old r
 reads_none old e q h f = rw (q, h) (record { ended = f; placed = refl }, refl)
 
 -- what is the same reading
@@ -147,9 +160,6 @@ pub record Placing (reading : Reading) (old : List ℕ) (i : ℕ) (new : List �
   pub same : length new ≡ length old
   pub room : sets old 0 reading.placed ≡ sets new i later.placed
 
-placing-first : (reading : Reading) (old : List ℕ) → Placing reading old 0 old reading
-placing-first reading old = record { ended = refl; count = sym (zero-add _); same = refl; room = refl }
-
 module _ {reading : Reading} {old : List ℕ} {i : ℕ} {new : List ℕ} {later : Reading} (p : Placing reading old i new later) where
   placing-next : (x : ℕ) (then : Reading) → later ≡ place_then x then → Placing reading old (i + 1) (set new i x) then
   placing-next x then e = record {
@@ -159,7 +169,7 @@ module _ {reading : Reading} {old : List ℕ} {i : ℕ} {new : List ℕ} {later 
     room = p.room ∙ ap (λ (l : Reading). sets new i l.placed) e ∙ rw (add-one i);
   }
 
-  placing-done : {r : Read} (e : Ended) (ended : Paper Unit) → r ≡ record { ended = e; placed = i } → later ≡ stop ended → ended_paper e ≡ ended → i ≤ length old → Reads reading old new r
+  placing-done : {r : Read} (e : Result Unit Refusal) (ended : Paper Unit) → r ≡ record { ended = e; placed = i } → later ≡ stop ended → paper e ≡ ended → i ≤ length old → Reads reading old new r
   placing-done e ended q h f l =
       let n : length reading.placed ≡ i = omega (arith, p.count, ap (λ (r : Reading). length r.placed) h) in
       rw q (
@@ -167,57 +177,45 @@ module _ {reading : Reading} {old : List ℕ} {i : ℕ} {new : List ℕ} {later 
         sym (p.room ∙ ap (λ (r : Reading). sets new i r.placed) h) ∙ sets-eq reading.placed old 0 (omega arith) ∙ rw (zero-add (length reading.placed)),
       )
 
--- a number of a list, at most three times itself, is one of 32 bits
-pub times-small : (times number : ℕ) → times ≤ 3 → number < 2 ^ 28 → times * number < 2 ^ 32
-times-small times number t l = lt_of_le_of_lt (mul-le-mul_right number t) (omega arith)
-
--- the entries of a list, each placed as so many times itself: i of them are, and the next begins at `at`
-pub record Entering (kind : Kind) (times : ℕ) (bytes : List ℕ) (from count : ℕ) (room₀ room : List ℕ) (at least i : ℕ) : Type 0 where
+-- the entries of a list, each placed as so many times itself: i of them are, and the rest is still to be read
+pub record Entering (kind : Kind) (times : ℕ) (bytes : List ℕ) (count : ℕ) (room₀ room rest : List ℕ) (least i : ℕ) : Type 0 where
   pub three : times ≤ 3
   pub upto : i ≤ count
   pub enough : count ≤ length room₀
   pub low : least ≤ 2 ^ 28
-  pub placing : Placing (each_as (λ n. times * n) (entries_in kind count 0 (drop from bytes))) room₀ i room (each_as (λ n. times * n) (entries_in kind (count - i) least (drop at bytes)))
+  pub placing : Placing (each_as (λ n. times * n) (entries_in kind count 0 bytes)) room₀ i room (each_as (λ n. times * n) (entries_in kind (count - i) least rest))
 
-pub entering-first : (kind : Kind) (times : ℕ) (bytes : List ℕ) (from count : ℕ) (room : List ℕ) → (times ≤ 3) × (count ≤ length room) → Entering kind times bytes from count room room from 0 0
-entering-first kind times bytes from count room h = record {
-  three = h.0;
-  upto = omega arith;
-  enough = h.1;
-  low = omega arith;
-  placing = rw (sub-zero count) (placing-first (each_as (λ n. times * n) (entries_in kind count 0 (drop from bytes))) room);
-}
-
-module _ {kind : Kind} {times : ℕ} {bytes : List ℕ} {from count : ℕ} {room₀ room : List ℕ} {at least i : ℕ} (n : Entering kind times bytes from count room₀ room at least i) where
+module _ {kind : Kind} {times : ℕ} {bytes : List ℕ} {count : ℕ} {room₀ room rest : List ℕ} {least i : ℕ} (n : Entering kind times bytes count room₀ room rest least i) where
   -- what the whole reading owes
   abbrev Owes : Read → Type 0
-  Owes r = Reads (each_as (λ n. times * n) (entries_in kind count 0 (drop from bytes))) room₀ room r
+  Owes r = Reads (each_as (λ n. times * n) (entries_in kind count 0 bytes)) room₀ room r
 
   -- the list ends with this answer
-  ends : {r : Read} (e : Ended) (ended : Paper Unit) → r ≡ record { ended = e; placed = i } → entries_in kind (count - i) least (drop at bytes) ≡ stop ended → ended_paper e ≡ ended → Owes r
+  ends : {r : Read} (e : Result Unit Refusal) (ended : Paper Unit) → r ≡ record { ended = e; placed = i } → entries_in kind (count - i) least rest ≡ stop ended → paper e ≡ ended → Owes r
   ends e ended q h f = placing-done n.placing e ended q (ap (each_as (λ n. times * n)) h) f (omega (arith, n.upto, n.enough))
 
-  pub ends-over : {r : Read} → r ≡ record { ended = Refused MoreBytes; placed = i } → count ≤ i → at < length bytes → Owes r
-  ends-over q h l = ends (Refused MoreBytes) (refused 14 0) q (entries_over kind (drop at bytes) least (count - i) (omega arith) (omega (arith, length-drop at bytes))) refl
+  -- behind the last entry, with bytes left or none
+  module _ (h : count ≤ i) where
+    all : count ≡ i
+    all = omega (arith, n.upto)
 
-  pub ends-whole : count ≤ i → length bytes ≤ at → Owes (record { ended = Whole; placed = i })
-  ends-whole h l = ends Whole (answer tt) refl (entries-whole kind (drop at bytes) least (count - i) (omega arith) (omega (arith, length-drop at bytes))) refl
+    pub ends-over : {r : Read} → r ≡ record { ended = Err MoreBytes; placed = count } → (length rest =? 0) ≡ false → Owes r
+    ends-over q l = ends (Err MoreBytes) (refused 14 0) (q ∙ ap (λ (k : ℕ). record { ended = Err MoreBytes; placed = k }) all) (entries_over kind rest least (count - i) (omega arith) l) refl
+
+    pub ends-whole : (length rest =? 0) ≡ true → Owes (record { ended = Ok tt; placed = count })
+    ends-whole l = ends (Ok tt) (answer tt) (ap (λ (k : ℕ). record { ended = Ok tt; placed = k }) all) (entries-whole kind rest least (count - i) (omega arith) l) refl
 
   module _ (more : i < count) where
-    pub ends-refused : {r : Read} (why : Refusal) → r ≡ record { ended = Refused why; placed = i } → IsNext bytes at (next.Refused why) → Owes r
-    ends-refused why q e = ends (Refused why) (on_paper why) q (entries-refused kind (drop at bytes) least (count - i) why (omega arith) e) refl
+    pub ends-refused : {r : Read} (why : Refusal) → r ≡ record { ended = Err why; placed = i } → IsEntry kind rest least (Err why) → Owes r
+    ends-refused why q e = ends (Err why) (on_paper why) q (e (count - i) (omega arith)) refl
 
-    module _ (v end : ℕ) (e : IsNext bytes at (next.Number v end)) where
-      pub ends-judged : {r : Read} (why : Refusal) → r ≡ record { ended = Refused why; placed = i } → kind.judge 13 (least + v) ≡ on_paper why → Owes r
-      ends-judged why q f = ends (Refused why) (on_paper why) q (entries-judged kind (drop at bytes) least v (drop end bytes) e.0 (count - i) why (omega arith) f) refl
-
-      pub entering-next : Works kind → kind.judge 13 (least + v) ≡ answer tt → Entering kind times bytes from count room₀ (set room i (times * (least + v))) end (least + v + 1) (i + 1)
-      entering-next k f =
-          let left : count - i - 1 ≡ count - (i + 1) = omega arith in
-          record {
-            three = n.three;
-            upto = omega arith;
-            enough = n.enough;
-            low = omega (arith, k.fine-small 13 (least + v) f);
-            placing = placing-next n.placing (times * (least + v)) _ (ap (each_as (λ n. times * n)) (rw left at (entries-place kind (drop at bytes) least v (drop end bytes) e.0 (count - i) (omega arith) f)));
-          }
+    pub entering-next : (number : ℕ) (behind : Bor (List ℕ)) → IsEntry kind rest least (Ok (number, behind)) → Entering kind times bytes count room₀ (set room i (times * number)) behind.now (number + 1) (i + 1)
+    entering-next number behind e =
+        let left : count - i - 1 ≡ count - (i + 1) = omega arith in
+        record {
+          three = n.three;
+          upto = omega arith;
+          enough = n.enough;
+          low = omega (arith, e.1);
+          placing = placing-next n.placing (times * number) _ (ap (each_as (λ n. times * n)) (rw left at (e.0 (count - i) (omega arith))));
+        }

@@ -2,14 +2,9 @@
 -- of holdings.
 use Rattle.std.specs.Prelude.{ℕ, ◌+◌, ◌-◌}
 use Rattle.refusal.specs.Paper.{Paper, answer, refuse◌unless◌, ◌>>◌}
-use Rattle.refusal.specs.Numbers.{on_paper}
 use Rattle.division.specs.Words.{◌≤?◌, between}
 use Rattle.division.specs.Sheet.{is_sheet}
 use Rattle.holding.specs.Holding as h
-use Rattle.shelf.specs.declared.kind.Kind as code
-use Rattle.shelf.specs.declared.kind.Kind.TheVariants.{Sheets, Holdings}
-use Rattle.shelf.specs.declared.kind.Count.{Count}
-use Rattle.shelf.specs.declared.kind.Count.TheVariants.{Numbers, Refused}
 
 pub record Kind : Type 0 where
   -- the number with which a list of so many begins
@@ -44,11 +39,11 @@ of_holdings = record {
   holds = λ holding. holding;
 }
 
--- the code's word for each
-abbrev pub kind_of : code.Kind → Kind
+-- the two by their names
+pub data KindName : Type 0 where
+  Sheets : KindName
+  Holdings : KindName
+
+abbrev pub kind_of : KindName → Kind
 kind_of Sheets = of_sheets
 kind_of Holdings = of_holdings
-
-abbrev pub count_paper : Count → Paper ℕ
-count_paper (Numbers n) = answer n
-count_paper (Refused why) = on_paper why

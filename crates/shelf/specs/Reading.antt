@@ -1,12 +1,10 @@
 -- Reading a shelf list. Document 01, "Shelf list"; document 02, g).
 use Rattle.std.specs.Prelude.{ℕ, zero, suc, ◌+◌, ◌≡◌, cond, List, [], ◌∷◌, ◌++◌, map, length, drop}
 use Rattle.refusal.specs.Paper.{Paper, answer, refused, refuse◌unless◌, room_for}
-use Rattle.refusal.specs.Numbers.{on_paper}
+use Rattle.refusal.specs.Numbers.{paper}
 use Rattle.division.specs.Words.{◌≤?◌, ◌=?◌}
 use Rattle.shelf.specs.Number.{Number, read_number}
 use Rattle.shelf.specs.Kind.{Kind, of_sheets, of_holdings}
-use Rattle.shelf.specs.declared.Ended.{Ended}
-use Rattle.shelf.specs.declared.Ended.TheVariants.{Whole, Refused}
 use Rattle.shelf.specs.declared.Read.{Read}
 
 -- how reading ends, and the numbers that it has placed
@@ -77,10 +75,6 @@ abbrev pub room_after_read : Reading → List ℕ → List ℕ
 room_after_read reading room = reading.placed ++ drop (length reading.placed) room
 
 -- the reader's answer on paper: "always carries how many sheets it placed"
-abbrev pub ended_paper : Ended → Paper Unit
-ended_paper Whole = answer tt
-ended_paper (Refused why) = on_paper why
-
 pub record IsRead (reading : Reading) (answer : Read) : Type 0 where
-  pub ended : ended_paper answer.ended ≡ reading.ended
+  pub ended : paper answer.ended ≡ reading.ended
   pub placed : answer.placed ≡ length reading.placed

@@ -1,59 +1,68 @@
-// The two kinds of list, and what they differ in.
+// The two kinds of list, and what they differ in: a trait, so that what is written over a list of any kind is compiled for each, and its loops
+// do not ask at each number which kind it is.
 ghost use Rattle.std.specs.Prelude.{◌≡◌};
-ghost use Rattle.refusal.specs.Numbers.{judged_paper};
+ghost use Rattle.refusal.specs.Numbers.{paper};
 ghost use Rattle.holding.specs.Holding as h;
-ghost use Rattle.shelf.specs.Kind.{kind_of, count_paper};
+ghost use Rattle.shelf.specs.Kind as k;
 
 use division::sheet::is_sheet;
 use holding::{Task, judge, past};
-use refusal::{Judged, Refusal};
+use refusal::Refusal;
 
-// Document 01's lists have sheets, and document 02's have holdings.
-#[derive(Clone, Copy)]
-pub enum Kind {
-    Sheets,
-    Holdings,
+pub trait Kind {
+    // its name in the definitions
+    ghost name: { k.KindName };
+
+    // The number with which a list of so many begins. A list has at most 4 096; of more, the sum is told all the same.
+    fn begins(count: u16) -> u32
+        ensures { result ≡ (k.kind_of name).begins count };
+
+    // What is wrong with a number of a list, if anything.
+    fn judged(task: Task, number: u32) -> Result<(), Refusal>
+        ensures { paper result ≡ (k.kind_of name).judge (h.past task) number };
 }
 
-#[derive(Clone, Copy)]
-pub enum Count {
-    Numbers(usize),
-    Refused(Refusal),
+// Document 01's lists have sheets.
+pub struct Sheets;
+
+impl Kind for Sheets {
+    ghost name = { k.Sheets };
+
+    fn begins(count: u16) -> u32 {
+        u32::from(count)
+    }
+
+    fn judged(task: Task, number: u32) -> Result<(), Refusal> {
+        if !is_sheet(number) {
+            return Err(past(task));
+        }
+        Ok(())
+    }
 }
 
-// The number with which a list of so many begins. A list has at most 4 096; of more, the sum is told all the same.
-pub fn begins(kind: Kind, count: u16) -> u32
-    ensures { result ≡ (kind_of kind).begins count }
-{
-    match kind {
-        Kind::Sheets => count as u32,
-        Kind::Holdings => 8_192 + count as u32,
+// And document 02's have holdings.
+pub struct Holdings;
+
+impl Kind for Holdings {
+    ghost name = { k.Holdings };
+
+    fn begins(count: u16) -> u32 {
+        8_192 + u32::from(count)
+    }
+
+    fn judged(task: Task, number: u32) -> Result<(), Refusal> {
+        judge(task, number)
     }
 }
 
 // The count that a first number tells.
-pub fn counted(kind: Kind, first: u32) -> Count
-    ensures { count_paper result ≡ (kind_of kind).count first }
+pub fn counted<K: Kind>(first: u32) -> Result<usize, Refusal>
+    ensures { paper result ≡ (k.kind_of K.name).count first }
 {
-    let none = begins(kind, 0);
-    let full = begins(kind, 4_096);
+    let none = K::begins(0);
+    let full = K::begins(4_096);
     if !((none <= first) & (first <= full)) {
-        return Count::Refused(Refusal::BadNumber);
+        return Err(Refusal::BadNumber);
     }
-    Count::Numbers((first - none) as usize)
-}
-
-// What is wrong with a number of a list, if anything.
-pub fn judged(kind: Kind, task: Task, number: u32) -> Judged
-    ensures { judged_paper result ≡ (kind_of kind).judge (h.past task) number }
-{
-    match kind {
-        Kind::Sheets => {
-            if !is_sheet(number) {
-                return Judged::Refused(past(task));
-            }
-            Judged::Fine
-        }
-        Kind::Holdings => judge(task, number),
-    }
+    Ok((first - none) as usize)
 }

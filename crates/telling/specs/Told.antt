@@ -7,10 +7,13 @@ abbrev pub status : {A : Type 0} → Paper A → ℕ
 status (answer a) = 0
 status (refused number value) = number
 
--- the answer, or "the value that it carries"
+-- the answer, told as a number, or "the value that it carries"
+abbrev pub told_as : {A : Type 0} → (A → ℕ) → Paper A → ℕ
+told_as number (answer a) = number a
+told_as number (refused n value) = value
+
 abbrev pub carried : Paper ℕ → ℕ
-carried (answer n) = n
-carried (refused number value) = value
+carried = told_as (λ n. n)
 
 -- a number of the answer; "A refusal writes nothing"
 abbrev pub written : {A B : Type 0} → (A → B) → Paper A → B → B

@@ -1,59 +1,34 @@
 // Official names.
-ghost use Rattle.std.specs.Prelude.{◌≡◌};
-ghost use Rattle.official.specs.Answers.{name_paper, listed_paper, checked_paper};
-ghost use Rattle.telling.specs.Told.{status, carried};
-ghost use Rattle.telling.specs.Plain.{byte_count, sheet_or_none, verdict_number};
+ghost use Rattle.std.specs.Prelude.{◌≡◌, unwrap_or};
+ghost use Rattle.telling.specs.Plain.{sheet_or_none, verdict_as};
 
-use crate::marks::NONE;
-use crate::number::tell_refusal;
-use official::{Checked, Listed, Named};
+use crate::marks::mark;
+use crate::number::Number;
+use official::verdict::Verdict;
 
-pub fn tell_named(named: Named, value: &mut u64) -> u32
-    ensures value { result ≡ status (name_paper named) }
-    ensures value_after { value.new ≡ carried (byte_count (name_paper named)) }
-{
-    match named {
-        Named::Bytes(n) => {
-            *value = n as u64;
-            0
-        }
-        Named::NotListed => {
-            *value = 0;
-            0
-        }
-        Named::Refused(why) => tell_refusal(why, value),
+// How many bytes a name has: 0 where a sheet is not listed.
+impl Number for Option<usize> {
+    ghost as_number = { λ count. unwrap_or count 0 };
+
+    fn number(self) -> u64 {
+        self.unwrap_or(0) as u64
     }
 }
 
-// The mark of no sheet.
-const NO_SHEET: u64 = NONE as u64;
+impl Number for Verdict {
+    ghost as_number = { verdict_as };
 
-pub fn tell_listed(listed: Listed, value: &mut u64)
-    ensures { value.new ≡ sheet_or_none (listed_paper listed) }
-{
-    match listed {
-        Listed::Sheet(n) => *value = n as u64,
-        Listed::NotListed => *value = NO_SHEET,
+    fn number(self) -> u64 {
+        match self {
+            Verdict::Agrees => 0,
+            Verdict::Differs => 1,
+            Verdict::NotListed => 2,
+        }
     }
 }
 
-pub fn tell_checked(checked: Checked, value: &mut u64) -> u32
-    ensures value { result ≡ status (checked_paper checked) }
-    ensures value_after { value.new ≡ carried (verdict_number (checked_paper checked)) }
+pub fn tell_listed(listed: Option<u32>, value: &mut u64)
+    ensures { value.new ≡ sheet_or_none listed }
 {
-    match checked {
-        Checked::Agrees => {
-            *value = 0;
-            0
-        }
-        Checked::Differs => {
-            *value = 1;
-            0
-        }
-        Checked::NotListed => {
-            *value = 2;
-            0
-        }
-        Checked::Refused(why) => tell_refusal(why, value),
-    }
+    *value = u64::from(mark(listed));
 }

@@ -1,76 +1,60 @@
 -- Groups with the high bit set are gathered, at most three; the byte behind them, or its want, decides. Assumes nothing.
-use mathlib.Core.Path.{refl, sym, subst}
-use mathlib.Core.List.{List}
+use mathlib.Core.Path.{◌≡◌, refl, sym, ◌∙◌}
+use mathlib.Core.List.{List, ◌∷◌}
 use Prim.Native.Nat.{ℕ, ◌+◌, ◌-◌, ◌*◌, ◌≤◌, ◌<◌}
 use native.Mathlib.Omega.{arith}
-use lib.ListN.{length, get_or}
-use Rattle.shelf.specs.Given.{IsNext}
+use Rattle.std.proofs.lemmas.Result.{err_from_is_err_and}
 use Rattle.shelf.proofs.NumberLaws.{Gathering, gather_none, gather-one, gather-more, gather-last, gather-four, gather-end}
 use Rattle.list_reading.proofs.next_number.Goals as goal
 
 -- one group, two and three are gathered
-module _ {bytes : List ℕ} {at : ℕ} (h₁ : 128 ≤ get_or bytes at 0) (l₁ : get_or bytes at 0 < 256) (i₁ : at < length bytes) where
-  one : Gathering bytes at (at + 1) (get_or bytes at 0 - 128) 128
-  one = gather-more (gather_none bytes at) i₁ h₁ l₁ (omega arith) (omega arith) refl
+module _ {bytes s : List ℕ} {a : ℕ} (g₁ : (bytes ≡ a ∷ s) × (a < 256)) (h₁ : 128 ≤ a) where
+  one : Gathering bytes s 1 (a - 128) 128
+  one = let e : 0 + 1 * (a - 128) ≡ a - 128 = omega arith in rw e at (gather-more (gather_none bytes) g₁.0 h₁ g₁.1 (omega arith) refl refl)
 
-  module _ (h₂ : 128 ≤ get_or bytes (at + 1) 0) (l₂ : get_or bytes (at + 1) 0 < 256) (i₂ : at + 1 < length bytes) where
-    two : Gathering bytes at (at + 1 + 1) (get_or bytes at 0 - 128 + 128 * (get_or bytes (at + 1) 0 - 128)) 16_384
-    two = gather-more one i₂ h₂ l₂ (omega arith) refl refl
+  module _ {t : List ℕ} {b : ℕ} (g₂ : (s ≡ b ∷ t) × (b < 256)) (h₂ : 128 ≤ b) where
+    two : Gathering bytes t 2 (a - 128 + 128 * (b - 128)) 16_384
+    two = gather-more one g₂.0 h₂ g₂.1 (omega arith) refl refl
 
-    module _ (h₃ : 128 ≤ get_or bytes (at + 1 + 1) 0) (l₃ : get_or bytes (at + 1 + 1) 0 < 256) (i₃ : at + 1 + 1 < length bytes) where
-      three : Gathering bytes at (at + 1 + 1 + 1) (get_or bytes at 0 - 128 + 128 * (get_or bytes (at + 1) 0 - 128) + 16_384 * (get_or bytes (at + 1 + 1) 0 - 128)) 2_097_152
-      three = gather-more two i₃ h₃ l₃ (omega arith) refl refl
+    module _ {u : List ℕ} {d : ℕ} (g₃ : (t ≡ d ∷ u) × (d < 256)) (h₃ : 128 ≤ d) where
+      three : Gathering bytes u 3 (a - 128 + 128 * (b - 128) + 16_384 * (d - 128)) 2_097_152
+      three = gather-more two g₃.0 h₃ g₃.1 (omega arith) refl refl
 
-pub returns-then-bytes-at : goal.returns-then-bytes-at
-returns-then-bytes-at c = gather-end (gather_none _ _) c.if-bytes-at.true
+pub returns-in_err-a : goal.returns-in_err-a
+returns-in_err-a c =
+    let p = err_from_is_err_and c.from_residual.result c.from_residual.ensures.1 in
+    let e = c.in_err-a.ensures in
+    rw (p.1, p.2, e.1) (sym (gather-end (gather_none _) e.0))
 
 pub returns-then-a-lt128 : goal.returns-then-a-lt128
-returns-then-a-lt128 c = gather-one _ _ c.if-bytes-at.false c.if-a-lt128.true
+returns-then-a-lt128 c = sym (gather-one c.in_ok-a.ensures.0 c.if-a-lt128.true)
 
-pub returns-then-bytes-second : goal.returns-then-bytes-second
-returns-then-bytes-second c =
-    let b = c.type_inv.bytes in
-    gather-end (one c.if-a-lt128.false (b _).fits c.if-bytes-at.false) c.if-bytes-second.true
+pub returns-in_err-b : goal.returns-in_err-b
+returns-in_err-b c =
+    let p = err_from_is_err_and c.from_residual-in_err-b.result c.from_residual-in_err-b.ensures.1 in
+    let e = c.in_err-b.ensures in
+    rw (p.1, p.2, e.1) (sym (gather-end (one c.in_ok-a.ensures c.if-a-lt128.false) e.0))
 
 pub returns-then-b-lt128 : goal.returns-then-b-lt128
-returns-then-b-lt128 c =
-    let b = c.type_inv.bytes in
-    subst (IsNext c.args.bytes.now c.args.at) (sym c.last_group.ensures)
-    (gather-last (one c.if-a-lt128.false (b _).fits c.if-bytes-at.false) c.if-bytes-second.false c.if-b-lt128.true (omega arith))
+returns-then-b-lt128 c = c.last_group.ensures ∙ sym (gather-last (one c.in_ok-a.ensures c.if-a-lt128.false) c.in_ok-b.ensures.0 c.if-b-lt128.true (omega arith))
 
-pub returns-then-bytes-third : goal.returns-then-bytes-third
-returns-then-bytes-third c =
-    let b = c.type_inv.bytes in
-    gather-end
-    (two c.if-a-lt128.false (b _).fits c.if-bytes-at.false c.if-b-lt128.false (b _).fits c.if-bytes-second.false)
-    c.if-bytes-third.true
+pub returns-in_err-c : goal.returns-in_err-c
+returns-in_err-c c =
+    let p = err_from_is_err_and c.from_residual-in_err-c.result c.from_residual-in_err-c.ensures.1 in
+    let e = c.in_err-c.ensures in
+    rw (p.1, p.2, e.1) (sym (gather-end (two c.in_ok-a.ensures c.if-a-lt128.false c.in_ok-b.ensures c.if-b-lt128.false) e.0))
 
 pub returns-then-c-lt128 : goal.returns-then-c-lt128
-returns-then-c-lt128 c =
-    let b = c.type_inv.bytes in
-    subst (IsNext c.args.bytes.now c.args.at) (sym c.last_group-then-c-lt128.ensures)
-    (gather-last
-    (two c.if-a-lt128.false (b _).fits c.if-bytes-at.false c.if-b-lt128.false (b _).fits c.if-bytes-second.false)
-    c.if-bytes-third.false c.if-c-lt128.true (omega arith))
+returns-then-c-lt128 c = c.last_group-then-c-lt128.ensures ∙ sym (gather-last (two c.in_ok-a.ensures c.if-a-lt128.false c.in_ok-b.ensures c.if-b-lt128.false) c.in_ok-c.ensures.0 c.if-c-lt128.true (omega arith))
 
-pub returns-then-bytes-fourth : goal.returns-then-bytes-fourth
-returns-then-bytes-fourth c =
-    let b = c.type_inv.bytes in
-    gather-end
-    (three c.if-a-lt128.false (b _).fits c.if-bytes-at.false c.if-b-lt128.false (b _).fits c.if-bytes-second.false c.if-c-lt128.false (b _).fits c.if-bytes-third.false)
-    c.if-bytes-fourth.true
+pub returns-in_err-d : goal.returns-in_err-d
+returns-in_err-d c =
+    let p = err_from_is_err_and c.from_residual-in_err-d.result c.from_residual-in_err-d.ensures.1 in
+    let e = c.in_err-d.ensures in
+    rw (p.1, p.2, e.1) (sym (gather-end (three c.in_ok-a.ensures c.if-a-lt128.false c.in_ok-b.ensures c.if-b-lt128.false c.in_ok-c.ensures c.if-c-lt128.false) e.0))
 
 pub returns-then-d-ge128 : goal.returns-then-d-ge128
-returns-then-d-ge128 c =
-    let b = c.type_inv.bytes in
-    gather-four
-    (three c.if-a-lt128.false (b _).fits c.if-bytes-at.false c.if-b-lt128.false (b _).fits c.if-bytes-second.false c.if-c-lt128.false (b _).fits c.if-bytes-third.false)
-    c.if-bytes-fourth.false c.if-d-ge128.true (omega arith)
+returns-then-d-ge128 c = sym (gather-four (three c.in_ok-a.ensures c.if-a-lt128.false c.in_ok-b.ensures c.if-b-lt128.false c.in_ok-c.ensures c.if-c-lt128.false) c.in_ok-d.ensures.0 c.if-d-ge128.true refl)
 
 pub returns : goal.returns
-returns c =
-    let b = c.type_inv.bytes in
-    subst (IsNext c.args.bytes.now c.args.at) (sym c.last_group-2.ensures)
-    (gather-last
-    (three c.if-a-lt128.false (b _).fits c.if-bytes-at.false c.if-b-lt128.false (b _).fits c.if-bytes-second.false c.if-c-lt128.false (b _).fits c.if-bytes-third.false)
-    c.if-bytes-fourth.false c.if-d-ge128.false (omega arith))
+returns c = c.last_group-2.ensures ∙ sym (gather-last (three c.in_ok-a.ensures c.if-a-lt128.false c.in_ok-b.ensures c.if-b-lt128.false c.in_ok-c.ensures c.if-c-lt128.false) c.in_ok-d.ensures.0 c.if-d-ge128.false (omega arith))

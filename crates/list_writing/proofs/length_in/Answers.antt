@@ -5,4 +5,4 @@ use Rattle.shelf.proofs.WritingLaws.{many}
 use Rattle.list_writing.proofs.length_in.Goals as goal
 
 pub returns-then-numbers-gt4096 : goal.returns-then-numbers-gt4096
-returns-then-numbers-gt4096 c = sym (many (kind_of c.args.kind) c.args.numbers.now c.if-numbers-gt4096.true)
+returns-then-numbers-gt4096 g c = sym (many (kind_of g.K.Kind.name) c.args.numbers.now c.if-numbers-gt4096.true)

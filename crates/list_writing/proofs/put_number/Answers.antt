@@ -1,14 +1,12 @@
--- Each turn writes the low group of what is left, with the high bit where more follow. Assumes nothing.
-use mathlib.Core.Path.{refl}
-use Rattle.shelf.proofs.NumberLaws.{grouping-on, next_more, next_last}
+-- Each turn writes the low group of what is left, with the high bit, since more follow; and the last group is written behind them. Assumes nothing.
+use Rattle.shelf.proofs.NumberLaws.{next_more, next_last}
 use Rattle.list_writing.proofs.put_number.Goals as goal
-use Rattle.list_writing.proofs.put_number.Goals.{then-left-ge128, else-left-ge128}
 
-pub loop-more-preserved : goal.loop-more-preserved
-loop-more-preserved c =
-    let on = c.loop-more-test.true in
-    let g = grouping-on c.loop-more.invariant on in
-    elim c.if-left-ge128.branch [
-      | then-left-ge128 w ↦ rw (w.room-is, w.more-is, on) (next_more g _ w.if-left-ge128.true refl)
-      | else-left-ge128 w ↦ rw (w.room-is, w.more-is) (next_last g _ w.if-left-ge128.false refl)
-    ]
+pub loop-left-preserved : goal.loop-left-preserved
+loop-left-preserved c = next_more c.loop-left.invariant c.loop-left-test.true
+
+pub returns-clause-value : goal.returns-clause-value
+returns-clause-value c = (next_last c.loop-left.invariant c.loop-left-test.false).0
+
+pub returns-clause-room_after : goal.returns-clause-room_after
+returns-clause-room_after c = (next_last c.loop-left.invariant c.loop-left-test.false).1

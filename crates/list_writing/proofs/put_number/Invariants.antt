@@ -1,11 +1,9 @@
--- Each turn writes the low group of what is left, with the high bit where more follow. Assumes nothing.
-use mathlib.Core.Bool.{cond}
-use Prim.Native.Nat.{suc}
+-- Each turn writes the low group of what is left, with the high bit, since more follow. Assumes nothing.
 use Rattle.shelf.proofs.NumberLaws.{Grouping}
 use Rattle.list_writing.proofs.put_number.Given as goal
 
-abbrev pub invariant-loop-more : goal.invariant-loop-more
-invariant-loop-more l = Grouping l.x l.initial.room l.at l.room l.left l.i l.more
+abbrev pub invariant-loop-left : goal.invariant-loop-left
+invariant-loop-left l = Grouping l.x l.initial.room l.at l.room l.left l.i
 
-abbrev pub decreases-loop-more : goal.decreases-loop-more
-decreases-loop-more l = cond l.more (suc l.left) 0
+abbrev pub decreases-loop-left : goal.decreases-loop-left
+decreases-loop-left l = l.left

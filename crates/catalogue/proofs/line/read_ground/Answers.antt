@@ -1,51 +1,57 @@
 -- What the line's front tells, and the name behind it, if there is one. Assumes nothing.
-use mathlib.Core.Path.{sym, ap, ◌∙◌}
-use mathlib.Core.List.{List}
-use Prim.Native.Nat.{ℕ, ◌+◌, ◌-◌, ◌<◌}
-use native.Mathlib.Omega.{arith}
-use lib.ListN.{length, take, drop}
-use Rattle.reading.specs.Front.{front_paper}
-use Rattle.catalogue.specs.Given.{front_with}
+use Rattle.std.proofs.Common.{◌≡◌, ◌∙◌, ℕ, ◌+◌, ◌-◌, ◌<◌, List, length, take, drop, arith}
+use Rattle.std.proofs.lemmas.Result.{err_from_is_err_and}
+use Rattle.refusal.specs.Paper.{answer}
+use Rattle.refusal.proofs.PaperLaws.{asked-on}
+use Rattle.catalogue.specs.Line.{label_in, name_in}
 use Rattle.catalogue.proofs.LineLaws.{label-within, name-taken}
-use Rattle.catalogue.proofs.GroundLaws.{Stands, stands, ground-refused, end_is, ground-bare, ground-named}
+use Rattle.catalogue.proofs.GroundLaws.{stands, ground-refused, end_is, ground-bare, ground-named}
 use Rattle.catalogue.proofs.line.read_ground.Goals as goal
 
-pub returns-then-end-line : goal.returns-then-end-line
-returns-then-end-line c =
-    let told : Stands c.args.line.now c.in-Label.front = stands c.args.line.now (sym (ap front_paper c.in-Label.is) ∙ c.read_front.ensures) in
-    ground-bare c.args.line.now told c.if-end-line.true
+-- what follows the label's space, as the code lends it
+name-is : (line : List ℕ) {end : ℕ} → end ≡ length (label_in line) → take (length line - (end + 1)) (drop (end + 1) line) ≡ name_in line
+name-is line e = rw e (name-taken line)
 
-pub overflow_add-start : goal.overflow_add-start
-overflow_add-start c =
-    let told : Stands c.args.line.now c.in-Label.front = stands c.args.line.now (sym (ap front_paper c.in-Label.is) ∙ c.read_front.ensures) in
-    let behind : c.in-Label.front.end < length c.args.line.now = let line = c.args.line.now in
-    omega (arith, end_is line told, label-within line, c.if-end-line.false) in
-    omega (arith, behind)
+pub returns-in_err-front : goal.returns-in_err-front
+returns-in_err-front c =
+    let p = err_from_is_err_and c.from_residual.result c.from_residual.ensures.1 in
+    rw (p.1, p.2) (ground-refused c.args.line.now c.in_err-front.field-0.0 c.in_err-front.ensures)
 
-pub slice_bounds-named_front-count : goal.slice_bounds-named_front-count
-slice_bounds-named_front-count c =
-    let told : Stands c.args.line.now c.in-Label.front = stands c.args.line.now (sym (ap front_paper c.in-Label.is) ∙ c.read_front.ensures) in
-    let behind : c.in-Label.front.end < length c.args.line.now = let line = c.args.line.now in
-    omega (arith, end_is line told, label-within line, c.if-end-line.false) in
-    omega (arith, behind)
-
-pub slice_bounds-named_front-start : goal.slice_bounds-named_front-start
-slice_bounds-named_front-start c =
-    let told : Stands c.args.line.now c.in-Label.front = stands c.args.line.now (sym (ap front_paper c.in-Label.is) ∙ c.read_front.ensures) in
-    let behind : c.in-Label.front.end < length c.args.line.now = let line = c.args.line.now in
-    omega (arith, end_is line told, label-within line, c.if-end-line.false) in
-    omega (arith, behind)
-
-pub returns-in-Refused : goal.returns-in-Refused
-returns-in-Refused c =
-    ground-refused c.args.line.now c.in-Refused.why (sym (ap front_paper c.in-Refused.is) ∙ c.read_front.ensures)
-
-pub returns-else-end-line : goal.returns-else-end-line
-returns-else-end-line c =
-    let told : Stands c.args.line.now c.in-Label.front = stands c.args.line.now (sym (ap front_paper c.in-Label.is) ∙ c.read_front.ensures) in
-    let behind : c.in-Label.front.end < length c.args.line.now = let line = c.args.line.now in
-    omega (arith, end_is line told, label-within line, c.if-end-line.false) in
+pub returns-then-front-line : goal.returns-then-front-line
+returns-then-front-line c =
     let line = c.args.line.now in
-    let t = told in
-    let name = ap (λ (k : ℕ). take (length line - (k + 1)) (drop (k + 1) line)) (end_is line t) ∙ name-taken line in
-    c.named_front.ensures ∙ ap (λ (l : List ℕ). front_with l c.in-Label.front) name ∙ ground-named line t behind
+    let told = stands line c.in_ok-front.ensures in
+    ground-bare line told c.if-front-line.true
+
+pub overflow_add-front : goal.overflow_add-front
+overflow_add-front c =
+    let line = c.args.line.now in
+    let told = stands line c.in_ok-front.ensures in
+    omega (arith, end_is line told, label-within line, c.if-front-line.false)
+
+pub slice_bounds-with_name-count : goal.slice_bounds-with_name-count
+slice_bounds-with_name-count c =
+    let line = c.args.line.now in
+    let told = stands line c.in_ok-front.ensures in
+    omega (arith, end_is line told, label-within line, c.if-front-line.false)
+
+pub slice_bounds-with_name-start : goal.slice_bounds-with_name-start
+slice_bounds-with_name-start c =
+    let line = c.args.line.now in
+    let told = stands line c.in_ok-front.ensures in
+    omega (arith, end_is line told, label-within line, c.if-front-line.false)
+
+pub returns-in_err-with_name : goal.returns-in_err-with_name
+returns-in_err-with_name c =
+    let line = c.args.line.now in
+    let told = stands line c.in_ok-front.ensures in
+    let h : c.in_ok-front.front.end < length line = omega (arith, end_is line told, label-within line, c.if-front-line.false) in
+    let p = err_from_is_err_and c.from_residual-in_err-with_name.result c.from_residual-in_err-with_name.ensures.1 in
+    rw (p.1, p.2) (asked-on c.in_err-with_name.field-0.0 (λ n. answer c.in_ok-front.front) (rw (name-is line (end_is line told)) at c.in_err-with_name.ensures) ∙ ground-named line told h)
+
+pub returns : goal.returns
+returns c =
+    let line = c.args.line.now in
+    let told = stands line c.in_ok-front.ensures in
+    let h : c.in_ok-front.front.end < length line = omega (arith, end_is line told, label-within line, c.if-front-line.false) in
+    rw (← rw (name-is line (end_is line told)) at c.in_ok-with_name.ensures) at (ground-named line told h)

@@ -1,9 +1,7 @@
 -- The label is read, and behind it the name, if there is one. Assumes nothing.
-use mathlib.Core.Path.{◌∙◌}
-use Prim.Native.Nat.{◌<◌}
-use native.Mathlib.Omega.{arith}
-use lib.ListN.{length, length-take}
-use Rattle.catalogue.proofs.LineLaws.{end_of, end-within, read-bare, read_named}
+use Rattle.std.proofs.Common.{◌∙◌, ◌<◌, length, length-take, arith}
+use Rattle.std.proofs.lemmas.Result.{err_from_is_err_and}
+use Rattle.catalogue.proofs.LineLaws.{end_of, end-within, read-bare, read_named, read-refused}
 use Rattle.catalogue.proofs.line.read_line.Goals as goal
 
 pub slice_bounds-read_label-end : goal.slice_bounds-read_label-end
@@ -11,24 +9,25 @@ slice_bounds-read_label-end c =
     let line = c.args.line.now in
     omega (arith, c.label_end-end.ensures, end-within line, length-take c.label_end-end.result line)
 
+pub returns-in_err-sheet : goal.returns-in_err-sheet
+returns-in_err-sheet c =
+    let p = err_from_is_err_and c.from_residual.result c.from_residual.ensures.1 in
+    let line = c.args.line.now in
+    rw (p.1, p.2) (read-refused line c.in_err-sheet.field-0.0 (rw c.label_end-end.ensures at c.in_err-sheet.ensures))
+
 pub returns-then-end-line : goal.returns-then-end-line
 returns-then-end-line c =
     let line = c.args.line.now in
-    c.read_label-found.ensures ∙ rw c.label_end-end.ensures (read-bare line (omega (arith, c.label_end-end.ensures, c.if-end-line.true)))
+    c.in_ok-sheet.ensures ∙ rw c.label_end-end.ensures (read-bare line (omega (arith, c.label_end-end.ensures, c.if-end-line.true)))
 
-pub slice_bounds-named-count : goal.slice_bounds-named-count
-slice_bounds-named-count c =
-    let behind : c.label_end-end.result < length c.args.line.now = omega (arith, c.label_end-end.ensures, end-within c.args.line.now, c.if-end-line.false) in
-    omega (arith, behind)
+pub slice_bounds-with_name-count : goal.slice_bounds-with_name-count
+slice_bounds-with_name-count c = omega (arith, c.label_end-end.ensures, end-within c.args.line.now, c.if-end-line.false)
 
-pub slice_bounds-named-start : goal.slice_bounds-named-start
-slice_bounds-named-start c =
-    let behind : c.label_end-end.result < length c.args.line.now = omega (arith, c.label_end-end.ensures, end-within c.args.line.now, c.if-end-line.false) in
-    omega (arith, behind)
+pub slice_bounds-with_name-start : goal.slice_bounds-with_name-start
+slice_bounds-with_name-start c = omega (arith, c.label_end-end.ensures, end-within c.args.line.now, c.if-end-line.false)
 
 pub returns : goal.returns
 returns c =
-    let behind : c.label_end-end.result < length c.args.line.now = omega (arith, c.label_end-end.ensures, end-within c.args.line.now, c.if-end-line.false) in
     let line = c.args.line.now in
-    let h : end_of line < length line = omega (arith, c.label_end-end.ensures, behind) in
-    c.named.ensures ∙ rw (c.read_label-found.ensures, c.label_end-end.ensures) (read_named line h)
+    let h : end_of line < length line = omega (arith, c.label_end-end.ensures, end-within line, c.if-end-line.false) in
+    c.with_name.ensures ∙ rw c.label_end-end.ensures (rw (← rw c.label_end-end.ensures at c.in_ok-sheet.ensures) at (read_named line h))

@@ -1,13 +1,12 @@
--- The piece goes on from the place that the loop has come to, and it ends there at a mark or at the end. The measure is what is left. Assumes nothing.
-use native.Mathlib.Omega.{arith}
-use Rattle.label.proofs.PieceLaws.{at_mark, past-byte, at-end}
+-- The first place that has the mark is where the piece ends. Assumes nothing.
+use Rattle.std.proofs.Common.{◌≡◌, ◌≢◌, sym, ◌∙◌, rules}
+use Rattle.std.proofs.lemmas.Iterator.{YieldsList-from_slice, IsFirst-from_position}
+use borrow.Author.Tests.{tests}
+use Rattle.fault.proofs.FirstLaws.{first-mark}
 use Rattle.fault.proofs.piece.rest_end.Goals as goal
 
-pub loop-i-preserved : goal.loop-i-preserved
-loop-i-preserved c = omega (arith, past-byte c.args.mark c.args.bytes.now c.loop-i.i (omega arith) c.if-bytes-i.false)
-
-pub returns-after-loop-i : goal.returns-after-loop-i
-returns-after-loop-i c = omega (arith, at-end c.args.mark c.args.bytes.now c.loop-i.i (omega arith))
-
-pub returns-then-bytes-i : goal.returns-then-bytes-i
-returns-then-bytes-i c = omega (arith, at_mark c.args.mark c.args.bytes.now c.loop-i.i (omega arith) c.if-bytes-i.true)
+pub returns : goal.returns
+returns c =
+    let m = c.args.mark in
+    let s = c.args.rest.now in
+    c.unwrap_or.ensures ∙ sym (first-mark m s c.position.result (IsFirst-from_position _ _ _ (λ b. b ≡ m) (λ b. b ≢ m) c.position.ensures.ran (YieldsList-from_slice s cc) (λ x q k. search (rules, tests)) (λ x q k. search (rules, tests))))

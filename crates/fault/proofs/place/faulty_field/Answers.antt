@@ -1,52 +1,35 @@
--- The fields passed are fine, so the first that is not is among those that are left. The measure is what is left. Assumes nothing.
-use mathlib.Core.Path.{◌≡◌, sym, ap, ◌∙◌}
-use mathlib.Core.List.{List, []}
-use Prim.Native.Nat.{ℕ, ◌+◌, ◌-◌, ◌≤◌}
-use native.Mathlib.Omega.{arith}
-use lib.ListN.{length, get_or, take, drop, length-drop}
-use lib.Seq.{take_all}
-use Rattle.label.specs.Text.{split}
+-- The fields passed are fine, so the first that is not is among those that are left. Assumes nothing.
+use Rattle.std.proofs.Common.{◌≡◌, sym, ap, ◌∙◌, ℕ, ◌+◌, ◌-◌, List, Bool, length, take, drop, arith}
 use Rattle.label.specs.Label.{is_field}
-use Rattle.label.proofs.PieceLaws.{piece, take-piece, piece-within}
+use Rattle.label.proofs.PieceLaws.{piece, take-piece}
 use Rattle.label.proofs.PlaceLaws.{all-fine, stops-here, one-fine}
+use Rattle.fault.proofs.TailLaws.{tail-end, tail-within}
 use Rattle.fault.proofs.place.faulty_field.Goals as goal
+
+-- the field from a place to where it ends, as the code lends it
+field-judged : (s : List ℕ) (start : ℕ) {end : ℕ} {good : Bool} → end ≡ length (piece 45 (drop start s)) → good ≡ is_field (take (start + end - start) (drop start s)) → good ≡ is_field (piece 45 (drop start s))
+field-judged s start {end} e j =
+    let n : start + end - start ≡ length (piece 45 (drop start s)) = omega (arith, e) in
+    j ∙ ap is_field (ap (λ (k : ℕ). take k (drop start s)) n ∙ take-piece 45 (drop start s))
 
 pub overflow_add-end : goal.overflow_add-end
 overflow_add-end c =
-    let bytes : List ℕ = c.args.bytes.now in
-    let rest : List ℕ = drop c.loop-start.start bytes in
-    let all_left : take (length bytes - c.loop-start.start) rest ≡ rest = take_all (length bytes - c.loop-start.start) rest (omega (arith, length-drop c.loop-start.start bytes)) in
-    let field : c.piece_end.result ≡ length (piece 45 rest) = c.piece_end.ensures ∙ ap (λ (l : List ℕ). length (get_or (split 45 l) 0 [])) all_left in
-    let within : c.loop-start.start + c.piece_end.result ≤ length bytes = omega (arith, field, piece-within 45 rest, length-drop c.loop-start.start bytes, c.loop-start-test.true) in
-    omega (arith, within)
+    omega (arith, tail-within 45 c.args.bytes.now c.loop-start.start c.piece_end.ensures (omega arith))
 
 pub slice_bounds-is_field-end : goal.slice_bounds-is_field-end
 slice_bounds-is_field-end c =
-    let bytes : List ℕ = c.args.bytes.now in
-    let rest : List ℕ = drop c.loop-start.start bytes in
-    let all_left : take (length bytes - c.loop-start.start) rest ≡ rest = take_all (length bytes - c.loop-start.start) rest (omega (arith, length-drop c.loop-start.start bytes)) in
-    let field : c.piece_end.result ≡ length (piece 45 rest) = c.piece_end.ensures ∙ ap (λ (l : List ℕ). length (get_or (split 45 l) 0 [])) all_left in
-    let within : c.loop-start.start + c.piece_end.result ≤ length bytes = omega (arith, field, piece-within 45 rest, length-drop c.loop-start.start bytes, c.loop-start-test.true) in
-    omega (arith, within)
+    omega (arith, tail-within 45 c.args.bytes.now c.loop-start.start c.piece_end.ensures (omega arith))
 
 pub returns-then-not-is_field : goal.returns-then-not-is_field
 returns-then-not-is_field c =
-    let bytes : List ℕ = c.args.bytes.now in
-    let rest : List ℕ = drop c.loop-start.start bytes in
-    let all_left : take (length bytes - c.loop-start.start) rest ≡ rest = take_all (length bytes - c.loop-start.start) rest (omega (arith, length-drop c.loop-start.start bytes)) in
-    let field : c.piece_end.result ≡ length (piece 45 rest) = c.piece_end.ensures ∙ ap (λ (l : List ℕ). length (get_or (split 45 l) 0 [])) all_left in
-    let judged : c.is_field.result ≡ is_field (piece 45 rest) = let n : c.loop-start.start + c.piece_end.result - c.loop-start.start ≡ length (piece 45 rest) = omega (arith, field) in
-    c.is_field.ensures ∙ ap is_field (ap (λ (k : ℕ). take k rest) n ∙ take-piece 45 rest) in
+    let field = tail-end 45 c.args.bytes.now c.loop-start.start c.piece_end.ensures in
+    let judged = field-judged c.args.bytes.now c.loop-start.start field c.is_field.ensures in
     stops-here c.loop-start.invariant (sym judged ∙ c.if-not-is_field.true)
 
 pub loop-start-preserved : goal.loop-start-preserved
 loop-start-preserved c =
-    let bytes : List ℕ = c.args.bytes.now in
-    let rest : List ℕ = drop c.loop-start.start bytes in
-    let all_left : take (length bytes - c.loop-start.start) rest ≡ rest = take_all (length bytes - c.loop-start.start) rest (omega (arith, length-drop c.loop-start.start bytes)) in
-    let field : c.piece_end.result ≡ length (piece 45 rest) = c.piece_end.ensures ∙ ap (λ (l : List ℕ). length (get_or (split 45 l) 0 [])) all_left in
-    let judged : c.is_field.result ≡ is_field (piece 45 rest) = let n : c.loop-start.start + c.piece_end.result - c.loop-start.start ≡ length (piece 45 rest) = omega (arith, field) in
-    c.is_field.ensures ∙ ap is_field (ap (λ (k : ℕ). take k rest) n ∙ take-piece 45 rest) in
+    let field = tail-end 45 c.args.bytes.now c.loop-start.start c.piece_end.ensures in
+    let judged = field-judged c.args.bytes.now c.loop-start.start field c.is_field.ensures in
     rw field (one-fine c.loop-start.invariant c.loop-start-test.true (sym judged ∙ c.if-not-is_field.false))
 
 pub returns : goal.returns

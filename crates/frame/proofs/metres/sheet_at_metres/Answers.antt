@@ -3,15 +3,11 @@ use mathlib.Core.Path.{◌≡◌, sym, ◌∙◌}
 use mathlib.Core.Bool.{true}
 use Rattle.refusal.specs.Paper.{is_answer}
 use Rattle.division.specs.Table.{is_scale}
-use Rattle.division.proofs.TestLaws.{both, returned}
+use Rattle.division.proofs.TestLaws.{both}
 use Rattle.frame.specs.Exact.{exactly}
-use Rattle.frame.proofs.PointTheorems.{no-scale, no_number}
-use Rattle.frame.proofs.PointLaws.{pair, out-of-reach-refused, rounded-asked}
+use Rattle.frame.proofs.PointTheorems.{no_number}
+use Rattle.frame.proofs.PointLaws.{pair, out-of-reach-refused}
 use Rattle.frame.proofs.metres.sheet_at_metres.Goals as goal
-
-pub returns-then-not-is_scale : goal.returns-then-not-is_scale
-returns-then-not-is_scale c =
-    let a = c.args in sym (no-scale a.scale a.e a.n (sym c.is_scale.ensures ∙ c.if-not-is_scale.true))
 
 pub returns-then-not-is_number : goal.returns-then-not-is_number
 returns-then-not-is_number c =
@@ -25,15 +21,3 @@ returns-then-not-in_reach c =
     let numbers : let a = c.args in (is_answer (exactly a.e) ≡ true) × (is_answer (exactly a.n) ≡ true) = let a = c.args in
     both (is_answer (exactly a.e)) (is_answer (exactly a.n)) (sym (pair c.is_number.ensures c.is_number-2.ensures) ∙ c.if-not-is_number.false) in
     sym (out-of-reach-refused c.args.scale c.args.e c.args.n c.well_formed.1.0.1 c.well_formed.1.1.0.1 is-scale numbers (sym (pair c.in_reach.ensures c.in_reach-2.ensures) ∙ c.if-not-in_reach.true))
-
-pub returns-in-Sheet : goal.returns-in-Sheet
-returns-in-Sheet c =
-    let a = c.args in
-    let asked = rounded-asked a.scale a.e a.n (sym c.is_scale.ensures ∙ c.if-not-is_scale.false) in
-    rw c.in-Sheet.is at (c.sheet_at.ensures ∙ asked (returned c.down.result c.down.type_inv) (returned c.up.result c.up.type_inv) c.down.ensures c.up.ensures)
-
-pub returns-in-Refused : goal.returns-in-Refused
-returns-in-Refused c =
-    let a = c.args in
-    let asked = rounded-asked a.scale a.e a.n (sym c.is_scale.ensures ∙ c.if-not-is_scale.false) in
-    rw c.in-Refused.is at (c.sheet_at.ensures ∙ asked (returned c.down.result c.down.type_inv) (returned c.up.result c.up.type_inv) c.down.ensures c.up.ensures)

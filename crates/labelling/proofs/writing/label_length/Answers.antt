@@ -1,7 +1,6 @@
--- Past the test it is a sheet, and its label is put into 16 bytes to be counted. Assumes nothing.
-use mathlib.Core.Path.{ap, sym, ◌∙◌}
+-- Past the test it is a sheet, and its label is written to be counted. Assumes nothing.
+use Rattle.std.proofs.Common.{ap, sym, ◌∙◌, ℕ, List, length}
 use Rattle.refusal.specs.Paper.{answer}
-use Rattle.refusal.proofs.WroteLaws.{wrote-end}
 use Rattle.label.specs.Label.{label_length}
 use Rattle.labelling.proofs.writing.label_length.Goals as goal
 
@@ -12,4 +11,4 @@ returns-then-not-is_sheet c = rw (sym c.is_sheet.ensures ∙ c.if-not-is_sheet.t
 pub returns : goal.returns
 unfolding label_length
 returns c =
-    rw (sym c.is_sheet.ensures ∙ c.if-not-is_sheet.false) (ap answer (wrote-end c.put_label-len.ensures))
+    rw (sym c.is_sheet.ensures ∙ c.if-not-is_sheet.false) (ap (λ (l : List ℕ). answer (length l)) (c.as_slice.ensures ∙ c.put_sheet.ensures))

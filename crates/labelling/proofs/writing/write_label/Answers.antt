@@ -1,9 +1,7 @@
--- Past the test it is a sheet, and its label is put into 16 bytes and laid. Assumes nothing.
-use mathlib.Core.Path.{◌≡◌, refl, sym, ◌∙◌}
-use mathlib.Core.Bool.{true}
-use Rattle.refusal.proofs.WroteLaws.{wrote-taken}
+-- Past the test it is a sheet, and its label is written and laid. Assumes nothing.
+use Rattle.std.proofs.Common.{◌≡◌, refl, sym, ◌∙◌, true}
 use Rattle.division.specs.Sheet.{is_sheet}
-use Rattle.label.specs.Label.{write_label}
+use Rattle.label.specs.Label.{label_of, write_label}
 use Rattle.labelling.proofs.writing.write_label.Goals as goal
 
 pub returns-then-not-is_sheet : goal.returns-then-not-is_sheet
@@ -15,8 +13,6 @@ pub returns : goal.returns
 unfolding write_label
 returns c =
     let sheet : is_sheet c.args.sheet ≡ true = sym c.is_sheet.ensures ∙ c.if-not-is_sheet.false in
-    let e = c.lay.ensures in
-    record {
-      result_value = rw (sheet, ← wrote-taken c.put_label-len.ensures) e.result_value;
-      room_after = rw (sheet, ← wrote-taken c.put_label-len.ensures) e.room_after;
-    }
+    let label : c.as_slice.result.now ≡ label_of c.args.sheet = c.as_slice.ensures ∙ c.put_sheet.ensures in
+    let e = rw label at c.lay.ensures in
+    record { result_value = rw sheet e.result_value; room_after = rw sheet e.room_after }

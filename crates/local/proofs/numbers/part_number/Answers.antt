@@ -5,8 +5,8 @@ use Rattle.division.specs.Sheet.{scale_of}
 use Rattle.local.proofs.NumberLaws.{index-low, some-parts, number-left}
 use Rattle.local.proofs.numbers.part_number.Goals as goal
 
-pub overflow_sub-index : goal.overflow_sub-index
-overflow_sub-index c =
+pub overflow_sub-result : goal.overflow_sub-result
+overflow_sub-result c =
     let row_is : c.row-t.result ≡ code_row (scale_of c.args.sheet) = c.row-t.ensures ∙ ap code_row c.of.ensures in
     rw row_is (index-low c.requires)
 

@@ -11,4 +11,4 @@ use Rattle.official.proofs.list.entries.Goals as goal
 
 pub returns : goal.returns
 unfolding every from keep table_row rows_of columns_of index_at split value mark_of count_of ranges in_range place_from scale_with formed sheet_named read_label text utf8 official sheet_in
-returns c = record { names = refl; sheets = refl; whole = refl }
+returns c = record { names = refl; sheets = refl }

@@ -11,7 +11,6 @@ use Rattle.catalogue.specs.Line.{label_in}
 use Rattle.catalogue.proofs.LineLaws.{label-within}
 use Rattle.official.specs.Lookup.{is250000}
 use Rattle.official.specs.Verdict.{agrees, differs, check_at}
-use Rattle.official.proofs.ListLaws.{no_name, its-name}
 use Rattle.official.proofs.VerdictLaws.{nothing-listed, bare-differs, named-judged}
 use Rattle.official.proofs.verdict.check_at.Goals as goal
 
@@ -23,22 +22,22 @@ pub returns-then-not-is_250000 : goal.returns-then-not-is_250000
 unfolding check_at
 returns-then-not-is_250000 c = rw (sym c.is_250000.ensures ∙ c.if-not-is_250000.true) refl
 
-pub returns-then-len-eq0 : goal.returns-then-len-eq0
-returns-then-len-eq0 c =
+pub returns-in_default : goal.returns-in_default
+returns-in_default c =
     let a = c.args in
     let scale : is250000 a.sheet ≡ true = sym c.is_250000.ensures ∙ c.if-not-is_250000.false in
-    nothing-listed a.line.now a.sheet scale (no_name c.entry_of-entry.ensures c.if-len-eq0.true)
+    nothing-listed a.line.now a.sheet scale (sym c.in_default.ensures)
 
 pub returns-then-end-line : goal.returns-then-end-line
 unfolding label_in
 returns-then-end-line c =
     let a = c.args in
     let scale : is250000 a.sheet ≡ true = sym c.is_250000.ensures ∙ c.if-not-is_250000.false in
-    bare-differs a.line.now a.sheet scale (its-name c.entry_of-entry.ensures c.if-len-eq0.false) (sym c.piece_end-end.ensures ∙ c.if-end-line.true)
+    bare-differs a.line.now a.sheet scale (sym c.in-Some.ensures) (sym c.piece_end-end.ensures ∙ c.if-end-line.true)
 
-pub overflow_add-start : goal.overflow_add-start
+pub overflow_add-end : goal.overflow_add-end
 unfolding label_in
-overflow_add-start c = omega (arith, behind c.args.line.now c.piece_end-end.ensures c.if-end-line.false)
+overflow_add-end c = omega (arith, behind c.args.line.now c.piece_end-end.ensures c.if-end-line.false)
 
 pub slice_bounds-same_name-count : goal.slice_bounds-same_name-count
 unfolding label_in
@@ -56,7 +55,7 @@ returns-then-same_name c =
     let label : c.piece_end-end.result ≡ length (label_in a.line.now) = c.piece_end-end.ensures in
     let more : c.piece_end-end.result < length a.line.now = behind a.line.now label c.if-end-line.false in
     let judged : answer (cond c.same_name.result agrees differs) ≡ check_at a.line.now a.sheet =
-    named-judged a.line.now a.sheet scale (its-name c.entry_of-entry.ensures c.if-len-eq0.false) (omega (arith, label, more))
+    named-judged a.line.now a.sheet scale (sym c.in-Some.ensures) (omega (arith, label, more))
     (rw (rest-is a.line.now (c.piece_end-end.result + 1), label) at c.same_name.ensures) in
     rw c.if-same_name.true at judged
 
@@ -68,6 +67,6 @@ returns c =
     let label : c.piece_end-end.result ≡ length (label_in a.line.now) = c.piece_end-end.ensures in
     let more : c.piece_end-end.result < length a.line.now = behind a.line.now label c.if-end-line.false in
     let judged : answer (cond c.same_name.result agrees differs) ≡ check_at a.line.now a.sheet =
-    named-judged a.line.now a.sheet scale (its-name c.entry_of-entry.ensures c.if-len-eq0.false) (omega (arith, label, more))
+    named-judged a.line.now a.sheet scale (sym c.in-Some.ensures) (omega (arith, label, more))
     (rw (rest-is a.line.now (c.piece_end-end.result + 1), label) at c.same_name.ensures) in
     rw c.if-same_name.false at judged

@@ -15,4 +15,4 @@ pub returns : goal.returns
 unfolding neighbours flat_map
 returns c =
     let a = c.args in
-    let h = c.if-room-lt9.false in record { result_value = rw (fits a.sheet (length a.room.now) h) refl; room_after = rw (c.put_row-3.ensures, c.put_row-2.ensures, c.put_row.ensures) (placed a.sheet a.room.now h c.neighbours-block.ensures) }
+    let h = c.if-room-lt9.false in record { result_value = rw (fits a.sheet (length a.room.now) h) refl; room_after = rw (c.put_row-3.ensures, c.put_row-2.ensures, c.put_row.ensures) (placed a.sheet a.room.now h c.neighbours.ensures) }

@@ -3,5 +3,5 @@ use native.Mathlib.Omega.{arith}
 use Rattle.reckoning.proofs.ReckonLaws.{few-sheet}
 use Rattle.reading.proofs.at_front.front_at.Goals as goal
 
-pub overflow_add-sheet : goal.overflow_add-sheet
-overflow_add-sheet c = rw c.row-t.ensures (record { fits = omega (arith, few-sheet c.requires) })
+pub overflow_add-result : goal.overflow_add-result
+overflow_add-result c = rw c.row-t.ensures (record { fits = omega (arith, few-sheet c.requires) })

@@ -1,83 +1,75 @@
 -- What the line begins with is its label where it ends with it, and is read by what its numbers name; where it does not, the label has a fault.
-use mathlib.Core.Path.{◌≡◌, sym, ap, ◌∙◌}
-use mathlib.Core.List.{List}
-use Prim.Native.Nat.{ℕ}
-use native.Mathlib.Omega.{arith}
-use lib.ListN.{length, take, length-drop}
+-- Assumes nothing.
+use Rattle.std.proofs.Common.{◌≡◌, sym, ap, ◌∙◌, ℕ, List, length, take, true, false, arith}
 use lib.Seq.{length-take-le}
-use Rattle.refusal.specs.declared.Refusal.TheVariants.{NamesNoScale, FieldRange}
 use Rattle.refusal.specs.Paper.{answer}
 use Rattle.label.specs.Label.{formed, numbers_in}
 use Rattle.label.proofs.PieceLaws.{piece}
 use Rattle.label.proofs.NamedLaws.{read-unformed}
-use Rattle.reckoning.specs.declared.Reckoned.{Reckoned}
-use Rattle.reckoning.specs.declared.Named.TheVariants as naming
 use Rattle.reckoning.specs.Reckoning.{named}
-use Rattle.reckoning.proofs.ReckonLaws.{named-out, named-reach, named-corners, field_at, label-named}
-use Rattle.reading.proofs.FrontLaws.{Read, first-bytes, end-there, front_read, front-faulty, same-fault, front-refused, front-sheet}
+use Rattle.reckoning.proofs.ReckonLaws.{named-reach, named-corners, label-named}
+use Rattle.reading.proofs.FrontLaws.{first-bytes, end-there, front_read, front-faulty, same-fault, front-refused, front-sheet}
 use Rattle.reading.proofs.at_front.read_front.Goals as goal
 
--- Assumes nothing.
+pub is_end-requires : goal.is_end-requires
+is_end-requires c =
+    let line = c.args.line.now in
+    let bytes : take c.min.result line ≡ take 17 line = ap (λ (n : ℕ). take n line) c.min.ensures ∙ first-bytes line in
+    end-there line bytes c.in-Some.ensures
 
 pub front_fault-requires : goal.front_fault-requires
 front_fault-requires c =
-    let line : List ℕ = c.args.line.now in
-    let bytes : take c.least-most.result line ≡ take 17 line = ap (λ (n : ℕ). take n line) c.least-most.ensures ∙ first-bytes line in
-    front-faulty line bytes c.numbers_in-scanned.ensures (rw (← c.is_end-ended.ensures) c.if-not-whole.true)
+    let line = c.args.line.now in
+    let bytes : take c.min.result line ≡ take 17 line = ap (λ (n : ℕ). take n line) c.min.ensures ∙ first-bytes line in
+    front-faulty line bytes c.numbers_in.new.numbers.items c.numbers_in.result c.numbers_in.ensures
+    (λ end e f. let z : ◌≡◌ {A = ℕ} 0 1 = cc (sym e ∙ c.in_default.is) in omega arith)
 
-pub returns-then-not-whole : goal.returns-then-not-whole
-returns-then-not-whole c =
-    let line : List ℕ = c.args.line.now in
-    let bytes : take c.least-most.result line ≡ take 17 line = ap (λ (n : ℕ). take n line) c.least-most.ensures ∙ first-bytes line in
-    let l = line in
-    let e = c.front_fault.ensures ∙ ap (λ (s : List ℕ). formed (piece 32 s)) bytes ∙ same-fault l in
-    front-refused l c.front_fault.result (read-unformed (piece 32 l) c.front_fault.result (sym e))
+pub returns-in_default : goal.returns-in_default
+returns-in_default c =
+    let line = c.args.line.now in
+    let bytes : take c.min.result line ≡ take 17 line = ap (λ (n : ℕ). take n line) c.min.ensures ∙ first-bytes line in
+    let e = c.front_fault.ensures ∙ ap (λ (s : List ℕ). formed (piece 32 s)) bytes ∙ same-fault line in
+    front-refused line c.front_fault.result (read-unformed (piece 32 line) c.front_fault.result (sym e))
 
-pub overflow_add-i : goal.overflow_add-i
-overflow_add-i c =
-    let line : List ℕ = c.args.line.now in
-    let bytes : take c.least-most.result line ≡ take 17 line = ap (λ (n : ℕ). take n line) c.least-most.ensures ∙ first-bytes line in
-    let read : let l = line in Read (take c.least-most.result l) (piece 32 l) c.numbers_in-scanned.result.count × (take c.numbers_in-scanned.result.end l ≡ piece 32 l) = front_read line bytes c.numbers_in-scanned.ensures (rw (← c.is_end-ended.ensures) c.if-not-whole.false) in
-    let told : named (numbers_in (piece 32 line)) ≡ c.sheet_named.result = sym (c.sheet_named.ensures ∙ ap named (c.numbers_in-scanned.ensures.held.front ∙ read.0.numbers)) in
-    let h = c.numbers_in-scanned.ensures.held in
-    let vs = numbers_in (piece 32 line) in
-    omega (arith, named-out vs (told ∙ c.in-Scale.is ∙ ap (λ (r : Reckoned). naming.Scale c.in-Scale.s r) c.in-Out.is), length-drop 1 vs, h.counted, ap length read.0.numbers, h.within)
+pub front_fault-requires-then-not-is_end : goal.front_fault-requires-then-not-is_end
+front_fault-requires-then-not-is_end c =
+    let line = c.args.line.now in
+    let bytes : take c.min.result line ≡ take 17 line = ap (λ (n : ℕ). take n line) c.min.ensures ∙ first-bytes line in
+    front-faulty line bytes c.numbers_in.new.numbers.items c.numbers_in.result c.numbers_in.ensures
+    (λ end e f. let q : end ≡ c.in-Some.end = cc (sym e ∙ c.in-Some.is) in
+    let no : false ≡ true = sym (sym c.is_end.ensures ∙ c.if-not-is_end.true) ∙ rw q at f in
+    let z : ◌≡◌ {A = ℕ} 0 1 = cc in omega arith)
+
+pub returns-then-not-is_end : goal.returns-then-not-is_end
+returns-then-not-is_end c =
+    let line = c.args.line.now in
+    let bytes : take c.min.result line ≡ take 17 line = ap (λ (n : ℕ). take n line) c.min.ensures ∙ first-bytes line in
+    let e = c.front_fault-then-not-is_end.ensures ∙ ap (λ (s : List ℕ). formed (piece 32 s)) bytes ∙ same-fault line in
+    front-refused line c.front_fault-then-not-is_end.result (read-unformed (piece 32 line) c.front_fault-then-not-is_end.result (sym e))
 
 pub front_at-requires : goal.front_at-requires
 front_at-requires c =
-    let line : List ℕ = c.args.line.now in
-    let bytes : take c.least-most.result line ≡ take 17 line = ap (λ (n : ℕ). take n line) c.least-most.ensures ∙ first-bytes line in
-    let read : let l = line in Read (take c.least-most.result l) (piece 32 l) c.numbers_in-scanned.result.count × (take c.numbers_in-scanned.result.end l ≡ piece 32 l) = front_read line bytes c.numbers_in-scanned.ensures (rw (← c.is_end-ended.ensures) c.if-not-whole.false) in
-    let told : named (numbers_in (piece 32 line)) ≡ c.sheet_named.result = sym (c.sheet_named.ensures ∙ ap named (c.numbers_in-scanned.ensures.held.front ∙ read.0.numbers)) in
-    named-reach (numbers_in (piece 32 line)) (told ∙ c.in-Scale.is ∙ ap (λ (r : Reckoned). naming.Scale c.in-Scale.s r) c.in-At.is)
+    let line = c.args.line.now in
+    let bytes : take c.min.result line ≡ take 17 line = ap (λ (n : ℕ). take n line) c.min.ensures ∙ first-bytes line in
+    let read = front_read line bytes c.in-Some.ensures (sym c.is_end.ensures ∙ c.if-not-is_end.false) in
+    let told : named (numbers_in (piece 32 line)) ≡ c.sheet_named.result = sym (c.sheet_named.ensures ∙ ap named (c.as_slice.ensures.value ∙ read.0.are)) in
+    named-reach (numbers_in (piece 32 line)) (told ∙ c.in-Ok.is)
 
-pub returns-in-Unknown : goal.returns-in-Unknown
-returns-in-Unknown c =
-    let line : List ℕ = c.args.line.now in
-    let bytes : take c.least-most.result line ≡ take 17 line = ap (λ (n : ℕ). take n line) c.least-most.ensures ∙ first-bytes line in
-    let read : let l = line in Read (take c.least-most.result l) (piece 32 l) c.numbers_in-scanned.result.count × (take c.numbers_in-scanned.result.end l ≡ piece 32 l) = front_read line bytes c.numbers_in-scanned.ensures (rw (← c.is_end-ended.ensures) c.if-not-whole.false) in
-    let told : named (numbers_in (piece 32 line)) ≡ c.sheet_named.result = sym (c.sheet_named.ensures ∙ ap named (c.numbers_in-scanned.ensures.held.front ∙ read.0.numbers)) in
-    let l = line in
-    front-refused l NamesNoScale (sym (label-named (piece 32 l) read.0.formed (told ∙ c.in-Unknown.is)))
-
-pub returns-in-Out : goal.returns-in-Out
-returns-in-Out c =
-    let line : List ℕ = c.args.line.now in
-    let bytes : take c.least-most.result line ≡ take 17 line = ap (λ (n : ℕ). take n line) c.least-most.ensures ∙ first-bytes line in
-    let read : let l = line in Read (take c.least-most.result l) (piece 32 l) c.numbers_in-scanned.result.count × (take c.numbers_in-scanned.result.end l ≡ piece 32 l) = front_read line bytes c.numbers_in-scanned.ensures (rw (← c.is_end-ended.ensures) c.if-not-whole.false) in
-    let told : named (numbers_in (piece 32 line)) ≡ c.sheet_named.result = sym (c.sheet_named.ensures ∙ ap named (c.numbers_in-scanned.ensures.held.front ∙ read.0.numbers)) in
-    let l = line in
-    let e = field_at (piece 32 l) c.in-Out.i (rw read.1 at c.field_start.ensures) in
-    front-refused l (FieldRange c.field_start.result) (sym (e ∙ label-named (piece 32 l) read.0.formed (told ∙ c.in-Scale.is ∙ ap (λ (r : Reckoned). naming.Scale c.in-Scale.s r) c.in-Out.is)))
-
-pub returns-in-At : goal.returns-in-At
-returns-in-At c =
-    let line : List ℕ = c.args.line.now in
-    let bytes : take c.least-most.result line ≡ take 17 line = ap (λ (n : ℕ). take n line) c.least-most.ensures ∙ first-bytes line in
-    let read : let l = line in Read (take c.least-most.result l) (piece 32 l) c.numbers_in-scanned.result.count × (take c.numbers_in-scanned.result.end l ≡ piece 32 l) = front_read line bytes c.numbers_in-scanned.ensures (rw (← c.is_end-ended.ensures) c.if-not-whole.false) in
-    let told : named (numbers_in (piece 32 line)) ≡ c.sheet_named.result = sym (c.sheet_named.ensures ∙ ap named (c.numbers_in-scanned.ensures.held.front ∙ read.0.numbers)) in
-    let long : let l = line in c.numbers_in-scanned.result.end ≡ length (take c.numbers_in-scanned.result.end l) = let l = line in sym (length-take-le c.numbers_in-scanned.result.end l (end-there l bytes c.numbers_in-scanned.ensures)) in
-    let l = line in
-    let t = told ∙ c.in-Scale.is ∙ ap (λ (r : Reckoned). naming.Scale c.in-Scale.s r) c.in-At.is in
+pub returns-in-Ok : goal.returns-in-Ok
+returns-in-Ok c =
+    let line = c.args.line.now in
+    let bytes : take c.min.result line ≡ take 17 line = ap (λ (n : ℕ). take n line) c.min.ensures ∙ first-bytes line in
+    let read = front_read line bytes c.in-Some.ensures (sym c.is_end.ensures ∙ c.if-not-is_end.false) in
+    let told : named (numbers_in (piece 32 line)) ≡ c.sheet_named.result = sym (c.sheet_named.ensures ∙ ap named (c.as_slice.ensures.value ∙ read.0.are)) in
+    let long : c.in-Some.end ≡ length (take c.in-Some.end line) = sym (length-take-le c.in-Some.end line (end-there line bytes c.in-Some.ensures)) in
+    let t = told ∙ c.in-Ok.is in
     ap answer c.front_at.ensures
-    ∙ front-sheet l c.in-Scale.s c.in-At.at (named-corners (numbers_in (piece 32 l)) t) (long ∙ ap length read.1) (label-named (piece 32 l) read.0.formed t)
+    ∙ front-sheet line c.in-Ok.named (named-corners (numbers_in (piece 32 line)) t) (long ∙ ap length read.1) (label-named (piece 32 line) read.0.formed t)
+
+pub returns-in-Err : goal.returns-in-Err
+returns-in-Err c =
+    let line = c.args.line.now in
+    let bytes : take c.min.result line ≡ take 17 line = ap (λ (n : ℕ). take n line) c.min.ensures ∙ first-bytes line in
+    let read = front_read line bytes c.in-Some.ensures (sym c.is_end.ensures ∙ c.if-not-is_end.false) in
+    let told : named (numbers_in (piece 32 line)) ≡ c.sheet_named.result = sym (c.sheet_named.ensures ∙ ap named (c.as_slice.ensures.value ∙ read.0.are)) in
+    front-refused line c.not_named.result (sym (rw read.1 at c.not_named.ensures ∙ label-named (piece 32 line) read.0.formed (told ∙ c.in-Err.is)))

@@ -4,6 +4,7 @@ use mathlib.Core.Bool.{true, false}
 use mathlib.Core.List.{List}
 use Prim.Native.Nat.{ℕ, ◌≤◌, ◌<◌}
 use native.Mathlib.Omega.{arith}
+use borrow.Author.Tests.{eqb-true, eqb-false}
 use lib.ListN.{length}
 use Rattle.refusal.specs.Paper.{refused}
 use Rattle.label.specs.Text.{every, first_not}
@@ -18,12 +19,12 @@ some-strange l h = cannot (every is_label_byte l) (λ e. omega (arith, first-non
 none-strange : (l : List ℕ) → length l ≤ first_not is_label_byte l → every is_label_byte l ≡ true
 none-strange l h = must (every is_label_byte l) (λ e. omega (arith, first_some is_label_byte l e))
 
-pub returns-then-bytes-eq0 : goal.returns-then-bytes-eq0
-returns-then-bytes-eq0 c = let l = c.args.bytes.now in sym (empty-form l c.if-bytes-eq0.true)
+pub returns-then-is_empty : goal.returns-then-is_empty
+returns-then-is_empty c = let l = c.args.bytes.now in sym (empty-form l (eqb-true _ 0 (sym c.is_empty.ensures ∙ c.if-is_empty.true)))
 
 pub returns-then-strange-bytes : goal.returns-then-strange-bytes
 returns-then-strange-bytes c =
-    let few : let l = c.args.bytes.now in (1 ≤ length l) × (length l ≤ 16) = (omega (arith, c.if-bytes-eq0.false), c.requires.bytes_len_bound) in
+    let few : let l = c.args.bytes.now in (1 ≤ length l) × (length l ≤ 16) = (omega (arith, eqb-false _ 0 (sym c.is_empty.ensures ∙ c.if-is_empty.false)), c.requires.bytes_len_bound) in
     let l = c.args.bytes.now in
     let h = few in
     let e = c.strange_byte-strange.ensures in
@@ -31,8 +32,8 @@ returns-then-strange-bytes c =
 
 pub returns : goal.returns
 returns c =
-    let few : let l = c.args.bytes.now in (1 ≤ length l) × (length l ≤ 16) = (omega (arith, c.if-bytes-eq0.false), c.requires.bytes_len_bound) in
+    let few : let l = c.args.bytes.now in (1 ≤ length l) × (length l ≤ 16) = (omega (arith, eqb-false _ 0 (sym c.is_empty.ensures ∙ c.if-is_empty.false)), c.requires.bytes_len_bound) in
     let l = c.args.bytes.now in
     let h = few in
     let plain = none-strange l (omega (arith, c.strange_byte-strange.ensures, c.if-strange-bytes.false)) in
-    ap (refused 20) c.faulty_field-faulty.ensures ∙ sym (field-form l h.0 h.1 plain (field-wrong l h.0 h.1 c.requires.bytes_value plain))
+    ap (refused 20) c.faulty_field.ensures ∙ sym (field-form l h.0 h.1 plain (field-wrong l h.0 h.1 c.requires.bytes_value plain))

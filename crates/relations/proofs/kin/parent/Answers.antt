@@ -1,33 +1,15 @@
 -- The parent's index is the sheet's, counted in parts. Assumes nothing.
-use mathlib.Core.Path.{◌≡◌, sym, ◌∙◌}
+use Rattle.std.proofs.Common.{◌≡◌, Some}
+use mathlib.Core.Path.{sym, ◌∙◌}
 use mathlib.Core.Bool.{true}
-use Prim.Native.Nat.{ℕ, ◌≤◌}
 use native.Mathlib.Nat.{mul-pos}
 use native.Mathlib.Omega.{arith}
-use borrow.Author.Tests.{le-leb, lt-leb}
-use Rattle.division.specs.declared.table.Row.{Row}
 use Rattle.division.specs.Table.{code_row, parent_scale}
 use Rattle.division.specs.Sheet.{is_sheet, scale_of}
-use Rattle.relations.specs.Relations.{parent}
 use Rattle.division.proofs.NumberLaws.{ranged}
-use Rattle.division.proofs.FamilyLaws.{parted}
-use Rattle.relations.proofs.RelationLaws.{parent-low}
+use Rattle.division.proofs.FamilyLaws.{parted, the_parent, some-parent}
+use Rattle.relations.proofs.RelationLaws.{parent-low, parent-is}
 use Rattle.relations.proofs.kin.parent.Goals as goal
-
--- a row that names a parent is that of a scale that has one
-deep : {r : Row} (s : ℕ) → r ≡ code_row s → 1 ≤ r.parent → parent_scale s ≡ 0 → ⊥
-deep s row h e = omega (arith, rw row at h)
-
-pub returns-then-not-is_sheet : goal.returns-then-not-is_sheet
-unfolding parent
-returns-then-not-is_sheet c = rw (sym c.is_sheet.ensures ∙ c.if-not-is_sheet.true)
-
-pub returns-then-up-lt1 : goal.returns-then-up-lt1
-unfolding parent
-returns-then-up-lt1 c =
-    let sheet : is_sheet c.args.sheet ≡ true = sym c.is_sheet.ensures ∙ c.if-not-is_sheet.false in
-    let row : c.row-t.result ≡ code_row (scale_of c.args.sheet) = rw c.of.ensures at c.row-t.ensures in
-    rw (sheet, lt-leb 1 _ (rw row at c.if-up-lt1.true))
 
 pub overflow_sub-above : goal.overflow_sub-above
 overflow_sub-above c =
@@ -39,18 +21,22 @@ pub nonzero_div-above : goal.nonzero_div-above
 nonzero_div-above c =
     let sheet : is_sheet c.args.sheet ≡ true = sym c.is_sheet.ensures ∙ c.if-not-is_sheet.false in
     let row : c.row-t.result ≡ code_row (scale_of c.args.sheet) = rw c.of.ensures at c.row-t.ensures in
-    let k = parted (ranged c.args.sheet sheet).scale (deep _ row c.if-up-lt1.false) in
+    let up : c.row-t.result.parent ≡ Some c.in_ok-up.up = grind arith in
+    let k = parted (ranged c.args.sheet sheet).scale (some-parent (ranged c.args.sheet sheet).scale (rw row at up)) in
     rw row (mul-pos k.some k.some)
 
 pub overflow_add-result : goal.overflow_add-result
 overflow_add-result c =
     let sheet : is_sheet c.args.sheet ≡ true = sym c.is_sheet.ensures ∙ c.if-not-is_sheet.false in
     let row : c.row-t.result ≡ code_row (scale_of c.args.sheet) = rw c.of.ensures at c.row-t.ensures in
-    rw (c.first-first.ensures, row) (omega (arith, parent-low c.args.sheet sheet (deep _ row c.if-up-lt1.false)))
+    let up : c.row-t.result.parent ≡ Some c.in_ok-up.up = grind arith in
+    let deep : parent_scale (scale_of c.args.sheet) ≡ 0 → ⊥ = some-parent (ranged c.args.sheet sheet).scale (rw row at up) in
+    rw (c.first.ensures, row, the_parent (scale_of c.args.sheet) (rw row at up)) (omega (arith, parent-low c.args.sheet sheet deep))
 
 pub returns : goal.returns
-unfolding parent
 returns c =
     let sheet : is_sheet c.args.sheet ≡ true = sym c.is_sheet.ensures ∙ c.if-not-is_sheet.false in
     let row : c.row-t.result ≡ code_row (scale_of c.args.sheet) = rw c.of.ensures at c.row-t.ensures in
-    rw (c.first-first.ensures, row, sheet, le-leb 1 _ (rw row at c.if-up-lt1.false))
+    let up : c.row-t.result.parent ≡ Some c.in_ok-up.up = grind arith in
+    let deep : parent_scale (scale_of c.args.sheet) ≡ 0 → ⊥ = some-parent (ranged c.args.sheet sheet).scale (rw row at up) in
+    rw (c.first.ensures, row, the_parent (scale_of c.args.sheet) (rw row at up)) (sym (parent-is c.args.sheet sheet deep))
