@@ -6,7 +6,7 @@ use crate::{part, room};
 // How many bytes a question may have.
 pub(crate) const BYTES: usize = 512;
 
-// A number as it stands in a question: whether it has a minus, and its digits.
+// A number as it stands in a question: whether it has a minus, and its digits. No signed type holds all that is asked.
 #[derive(Clone, Copy, Default)]
 struct Digits {
     minus: bool,

@@ -123,7 +123,7 @@ impl Cover {
         Ok(count)
     }
 
-    // A delivery, set against it with room for so many marks, which are no bytes of a heap.
+    // A delivery, set against it with room for so many marks, on the stack.
     pub(crate) fn compared<const ROOM: usize>(self, sheets: &[u32]) -> Result<u32, Refusal>
         requires enough { count_of self.block ≤ ROOM }
         requires room_bound { ROOM ≤ 4_096 }

@@ -20,7 +20,8 @@ fn in_area(s: u32, i: u32) -> Place
     Place { row, column }
 }
 
-// At a scale that is made from another: the index of the sheet that it is a part of, and with that sheet's place its own.
+// At a scale that is made from another: the index of the sheet that it is a part of, and with that sheet's place its own. That the scale is
+// such a one is said of the number, since each arm below gives its own as a number: a type would be made in the arm only to be opened here.
 fn above(s: u32, i: u32) -> u32
     requires { OfParent s i }
     ensures { result ≡ i / parts s }

@@ -67,7 +67,8 @@ fn span_of(a: u64, b: u64, size: u64) -> Span
     }
 }
 
-// The columns and the rows of a grid that share a point with a window.
+// The columns and the rows of a grid that share a point with a window: two functions, since columns are counted with the east values and rows
+// against the north values.
 fn columns_in(grid: Grid, window: Window) -> Span
     ensures { result ≡ spanned (columns_in grid.scale window.edges) }
 {

@@ -83,7 +83,7 @@ impl Grid {
     }
 
     // The column and the row in which a point lies. 32 bits hold any distance in the area, and a machine divides such numbers in less time than
-    // those of 64 bits.
+    // those of 64 bits. Two functions, here and below, since columns go by the width, eastwards, and rows by the height, southwards.
     fn column_at(self, point: Point) -> u32
         ensures { result ≡ column_at self.scale point.e }
     {

@@ -6,8 +6,8 @@ ghost use Rattle.division.specs.Sheet.{scale_of};
 use crate::sheet::{is_sheet, scale_of};
 
 // What belongs to a scale. Width and height are metres. Parts is the number of parts per parent, side how many of them lie each way (4 and 2
-// for 2 x 2), and parent the scale that it is made from: there is none, and both are 0, where it is made from the area. First is its first
-// sheet number, the number of sheets of all the scales before it.
+// for 2 x 2), and parent the scale that it is made from: there is none where it is made from the area, and both are 0, as the definitions
+// `parts` and `side` have them. First is its first sheet number, the number of sheets of all the scales before it.
 #[derive(Clone, Copy)]
 pub struct Row {
     pub width: u32,
@@ -136,7 +136,7 @@ const FIRST_8: u32 = FIRST_7 + TABLE[6].rows * TABLE[6].columns;
 
 const FIRST_9: u32 = FIRST_8 + TABLE[7].rows * TABLE[7].columns;
 
-// A number given as a scale: 1 to 9 are the scales, and of any other number each answer is 0.
+// A number given as a scale: 1 to 9 are the scales, and of any other number each answer is 0, as the definitions have it and C is told.
 #[derive(Clone, Copy)]
 pub struct Scale(pub u32);
 

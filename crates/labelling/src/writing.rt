@@ -13,7 +13,8 @@ use division::table::Scale;
 use refusal::{Refusal, lay};
 use std::marker::Model;
 
-// A label while it is written: so many bytes, at the front of 16.
+// A label while it is written: so many bytes, at the front of 16. No `ArrayVec`, since a number is put as three digits of which those in front may
+// count for nothing.
 #[derive(Drop)]
 struct Label {
     bytes: [u8; 16],
@@ -105,7 +106,8 @@ impl Label {
         self.put_area(t.columns, index);
     }
 
-    // The label of a sheet of the scale: the first number, and the fields behind it.
+    // The label of a sheet of the scale, put into an empty one: the first number, and the fields behind it. That the sheet is of the scale is said
+    // of the two, here and in what follows: each arm of `put_sheet` gives its own scale, and a type would be made in it only to be opened here.
     fn put_of(&mut self, s: u32, sheet: u32)
         requires of { IsSheetOf s sheet }
         requires none_yet { self.old ≡ [] }
@@ -149,7 +151,7 @@ impl Label {
     }
 }
 
-// The first number of a scale's labels; of no scale 0.
+// The first number of a scale's labels; of no scale 0, as the definition has it, so that nothing need be asked of the scale.
 #[tactic(auto, unfolding(label::specs::Label::mark_of))]
 fn mark_of(s: u32) -> u32
     ensures { result ≡ mark_of s }

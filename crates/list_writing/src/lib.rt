@@ -21,6 +21,7 @@ fn put_number(x: u32, room: &mut [u8], at: usize) -> usize
     ensures value { result ≡ at + groups_of x }
     ensures room_after { room.new ≡ sets room.old at (number_bytes x) }
 {
+    // by hand, since how many groups there are is known only with the last
     let mut left = x;
     let mut i = at;
     while 128 <= left {

@@ -13,7 +13,8 @@ use municipality::has;
 use refusal::Refusal;
 use relations::kin::{child, parent};
 
-// The number of a 1:1 000 or a 1:500 sheet in the sheet that it is a part of.
+// The number of a 1:1 000 or a 1:500 sheet in the sheet that it is a part of. It and the functions below that ask for a
+// sheet of a scale ask for four different ones: a type would have the scale as a parameter, and say what the clause says.
 fn part_number(sheet: u32) -> u32
     requires { Part sheet }
     ensures { result ≡ part_number sheet }

@@ -194,3 +194,8 @@ sheet-leads-back name n e =
 pub either-spelling : (a b : List ℕ) → SameName a b → sheet_called a ≡ sheet_called b
 unfolding sheet_called
 either-spelling a b s = ap (λ (letters : List ℕ). option_and_then sheet_in (find (λ row. same_bytes letters (joined row.name)) official)) s
+
+-- ---- two answers that meet the promise coincide
+
+pub one-listing : {a b d : Option ℕ} → a ≡ d → b ≡ d → a ≡ b
+one-listing e f = e ∙ sym f

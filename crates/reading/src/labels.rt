@@ -34,7 +34,7 @@ pub(crate) fn not_named(why: Unnamed, label: &[u8]) -> Refusal
 {
     match why {
         Unnamed::Scale => Refusal::NamesNoScale,
-        Unnamed::Number(k) => Refusal::FieldRange(field_start(label, k)),
+        Unnamed::Number(_, k) => Refusal::FieldRange(field_start(label, k)),
     }
 }
 

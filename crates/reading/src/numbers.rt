@@ -1,4 +1,5 @@
-// The numbers of the fields in the digits and hyphens that bytes begin with.
+// The numbers of the fields in the digits and hyphens that bytes begin with. That they are at most 17 is asked of the slice, by
+// three functions that are one walk: a type with that fact would be made of the slice by both callers, and opened again in all three.
 ghost use Rattle.std.specs.Prelude.{◌≡◌, true, [], ◌^◌, ◌≤◌, ◌<◌, length, get_or};
 ghost use Rattle.division.specs.Words.{◌=?◌};
 ghost use Rattle.reading.specs.Given.{is_digit, digits_from, field_from, IsScanned};

@@ -20,10 +20,10 @@ reach_of s p = record { index = index_at (made s) p; right = p.column * (width s
 unfoldable pub reckon : ℕ → List ℕ → Result Reach ℕ
 reckon s fields = cond (in_range (made s) fields) (Ok (reach_of s (place_from (made s) fields))) (Err (first_out (made s) fields))
 
--- that with its scale; or the number out of range, which has the first one before it
+-- that with its scale; or the scale and the number out of range, which has the first one before it
 abbrev pub named_at : ℕ → Result Reach ℕ → Result Named Unnamed
 named_at s (Ok reach) = Ok (record { scale = s; reach = reach })
-named_at s (Err i) = Err (Number (1 + i))
+named_at s (Err i) = Err (Number s (1 + i))
 
 -- "The first number and the count of fields together decide the scale"
 unfoldable pub named : List ℕ → Result Named Unnamed
@@ -34,4 +34,4 @@ named numbers =
 -- why they name no sheet: "21 an unknown first number or count of fields"; "for 5 the start of the first field out of range"
 abbrev pub not_named : {A : Type 0} → Unnamed → List ℕ → Paper A
 not_named Scale label = refused 21 0
-not_named (Number k) label = refused 5 (start_of k (split (code "-") label))
+not_named (Number s k) label = refused 5 (start_of k (split (code "-") label))

@@ -1,6 +1,7 @@
 // What the fields behind a label's first number make at a scale, by way of its parents: an index, and how far the sheet lies from the area's
 // corner; or the place of the first that is out of range. The scale is a parameter, so that a compiled program works with numbers that it
-// knows.
+// knows. The fields are handed on by their tails, a slice for each scale, and that they are its fields is said of the slice: a struct would
+// be made of each tail, and say the same of the same slice.
 ghost use Rattle.std.specs.Prelude.{◌≡◌, ◌+◌, drop};
 ghost use Rattle.division.specs.Words.{between};
 ghost use Rattle.division.specs.Table.{parent_scale};

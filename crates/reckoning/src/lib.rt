@@ -26,12 +26,12 @@ pub struct Named {
     pub reach: Reach,
 }
 
-// Why numbers name no sheet: their first and their count are none of those known, or the number at a place of theirs is out of range, the
-// first of those that are.
+// Why numbers name no sheet: their first and their count are none of those known; or they name a scale, and the number at a place of theirs
+// is out of range at it, the first of those that are.
 #[derive(Clone, Copy)]
 pub enum Unnamed {
     Scale,
-    Number(usize),
+    Number(u32, usize),
 }
 
 // What numbers name, whatever they are and however many.
@@ -46,6 +46,6 @@ pub fn sheet_named(numbers: &[u64]) -> Result<Named, Unnamed>
     };
     match ground_from(scale, others) {
         Ok(reach) => Ok(Named { scale, reach }),
-        Err(i) => Err(Unnamed::Number(1 + i)),
+        Err(i) => Err(Unnamed::Number(scale, 1 + i)),
     }
 }

@@ -1,6 +1,5 @@
 // The refusals: document 01, "Numbers of refusal", and those that document 02 adds. Every question of the box gets its answer or one of
-// these: a `Result` with a `Refusal`. And `lay`, for bytes that are there already and go into lent room; `put` and
-// `put_byte` where there is room.
+// these: a `Result` with a `Refusal`. And `lay`, for bytes that are there already and go into lent room.
 #![tactic(auto)]
 
 ghost use Rattle.std.specs.Prelude.{◌≡◌, [], ◌∷◌, ◌+◌, ◌≤◌, ◌<◌, length, None, Some};
@@ -106,24 +105,6 @@ impl Refusal {
             Refusal::Missing(sheet) => Numbered::carrying(27, sheet as usize),
         }
     }
-}
-
-// Puts a byte, or bytes, into lent room from a place on, and gives the place behind them.
-pub fn put_byte(b: u8, room: &mut [u8], at: usize) -> usize
-    requires { at < length room.old }
-    ensures { Wrote room.old at room.new result (b ∷ []) }
-{
-    room[at] = b;
-    at + 1
-}
-
-pub fn put(bytes: &[u8], room: &mut [u8], at: usize) -> usize
-    requires { at + length bytes.now ≤ length room.old }
-    ensures { Wrote room.old at room.new result bytes.now }
-{
-    let end = at + bytes.len();
-    room[at..end].copy_from_slice(bytes);
-    end
 }
 
 // Lays bytes into lent room, from its first place on, where they fit. An answer is how many they are.

@@ -111,7 +111,7 @@ pub fn offset(a: u32, b: u32) -> Result<Offset, Refusal>
     Ok(apart(x.place, y.place))
 }
 
-// Three steps by name: an array's `map` would say them once, but the check does not find by itself that it gives these three.
+// Three steps, as the definition has them. An array's `map` would say them once; tried, and its law left open that it gives these three.
 fn neighbour_row(sheet: u32, south: i64) -> [Option<u32>; 3]
     ensures { result ≡ neighbour_row sheet south }
 {

@@ -12,10 +12,28 @@ ghost use Rattle.rows.specs.Given.{spaced, pair, bytes_in};
 
 use catalogue::line::read_ground;
 use division::Edges;
-use refusal::{Refusal, put, put_byte};
+use refusal::Refusal;
 
 // Each of the functions that put something into room takes the room and a place, and gives the place behind it. A writer that holds both is
 // proved as well, but a line's row then takes a quarter more instructions: each store has the next read the place again.
+
+fn put_byte(b: u8, out: &mut [u8], at: usize) -> usize
+    requires { at < length out.old }
+    ensures { Wrote out.old at out.new result (b ∷ []) }
+{
+    out[at] = b;
+    at + 1
+}
+
+fn put(bytes: &[u8], out: &mut [u8], at: usize) -> usize
+    requires { at + length bytes.now ≤ length out.old }
+    ensures { Wrote out.old at out.new result bytes.now }
+{
+    let end = at + bytes.len();
+    out[at..end].copy_from_slice(bytes);
+    end
+}
+
 // Two digits.
 fn put_pair(v: u64, out: &mut [u8], at: usize) -> usize
     requires { Small 100 v 2 at (length out.old) }
@@ -134,7 +152,8 @@ fn put_hundreds(h: u64, out: &mut [u8], at: usize) -> usize
     a + 2
 }
 
-// An edge in whole metres, behind a space: six digits from the west to the east, and seven from the south to the north.
+// An edge in whole metres, behind a space: six digits from the west to the east, and seven from the south to the north. Two functions, since the
+// second is the first with a digit more in front of it, and other bounds.
 fn put_six(x: i64, out: &mut [u8], at: usize) -> usize
     requires hundreds { Hundreds 2_000 8_000 x }
     requires at_in_bounds { at + 7 ≤ length out.old }

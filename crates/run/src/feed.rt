@@ -16,7 +16,7 @@ pub struct Fed {
     pub lines: usize,
 }
 
-// The row of a line, where there is room for any. Gives the place behind it.
+// The row of a line, where there is room for any, as the public `turn` sees to. Gives the place behind it.
 fn put_row(line: &[u8], number: u64, out: &mut [u8], at: usize) -> usize
     requires { at + 64 ≤ length out.old }
     ensures wrote { Wrote out.old at out.new result (output_line number line.now) }

@@ -7,9 +7,8 @@ ghost use Rattle.run.specs.Run.{poured, tally};
 ghost use Rattle.run.specs.Given.{Brought};
 
 use crate::turn::{State, begin, turn};
-use refusal::put;
 
-// How much of an output a sink took, and whether that was all of it.
+// How much of an output a sink took, and whether that was all of it: both are told in either case, so that neither is the other's refusal.
 #[derive(Clone, Copy)]
 pub struct Took {
     pub written: usize,
@@ -44,7 +43,7 @@ fn bring(input: &[u8], lengths: &[usize], a: usize, buf: &mut [u8], s: State) ->
     let end = s.end;
     let most = (input.len() - a).min(buf.len() - end);
     let n = wished(lengths, a, most);
-    put(&input[a..a + n], buf, end);
+    buf[end..end + n].copy_from_slice(&input[a..a + n]);
     n
 }
 
@@ -57,8 +56,9 @@ fn pour(bytes: &[u8], sink: &mut [u8], p: Took) -> Took
     let at = p.written;
     let left = sink.len() - at;
     let n = left.min(bytes.len());
+    sink[at..at + n].copy_from_slice(&bytes[..n]);
     Took {
-        written: put(&bytes[..n], sink, at),
+        written: at + n,
         whole: p.whole & (bytes.len() <= left),
     }
 }
@@ -75,7 +75,7 @@ fn run(input: &[u8], lengths: &[usize], buf: &mut [u8], out: &mut [u8], sink: &m
         written: 0,
         whole: true,
     };
-    let mut a: usize = 0;
+    let mut a: usize = 0; // by hand, since a read brings as many as it does
     while !s.over {
         let got = bring(input, lengths, a, buf, s);
         a += got;

@@ -8,10 +8,10 @@ ghost use Rattle.run.specs.Program.{line_of, output_from};
 ghost use Rattle.run.specs.Run.{start, goes_on, turn_of};
 
 use crate::feed::{feed, put_whole};
-use refusal::put;
 
 // What a run goes by between two turns: the bytes of the buffer that have no row yet, from `from` up to `end`; the number of their first
 // line; how many bytes of the room are to be written; whether input is wanted, which is to be read behind `end`; and whether the run is over.
+// The buffer itself is the program's. Both flags may be told at once by a caller, since the definition (`turn_of`) is of any state.
 #[derive(Clone, Copy)]
 pub struct State {
     pub from: usize,
@@ -73,9 +73,8 @@ fn keep(buf: &mut [u8], a: usize, n: usize) -> usize
     ensures { Wrote buf.old 0 buf.new result (take 66 (slice a n buf.old)) }
 {
     let k = (n - a).min(66);
-    let mut line = [0u8; 66];
-    put(&buf[a..a + k], &mut line, 0);
-    put(&line[..k], buf, 0)
+    buf.copy_within(a..a + k, 0);
+    k
 }
 
 // One turn: `got` bytes were read behind what the buffer holds, or none where none were wanted.

@@ -1,4 +1,4 @@
-// Answers of several numbers: a status, and a place for each.
+// Answers of several numbers: a status, and a place for each. A function for each of them, since C has its own number of places for it.
 ghost use Rattle.std.specs.Prelude.{◌≡◌};
 ghost use Rattle.refusal.specs.Numbers.{paper};
 ghost use Rattle.local.specs.Numbers.{as_three};

@@ -47,7 +47,7 @@ returns-in_err-with_name c =
     let told = stands line c.in_ok-front.ensures in
     let h : c.in_ok-front.front.end < length line = omega (arith, end_is line told, label-within line, c.if-front-line.false) in
     let p = err_from_is_err_and c.from_residual-in_err-with_name.result c.from_residual-in_err-with_name.ensures.1 in
-    rw (p.1, p.2) (asked-on c.in_err-with_name.field-0.0 (λ n. answer c.in_ok-front.front) (rw (name-is line (end_is line told)) at c.in_err-with_name.ensures) ∙ ground-named line told h)
+    rw (p.1, p.2) (asked-on c.in_err-with_name.field-0.0 (λ n. answer c.in_ok-front.front) (rw (← name-is line (end_is line told)) c.in_err-with_name.ensures) ∙ ground-named line told h)
 
 pub returns : goal.returns
 returns c =

@@ -14,5 +14,5 @@ unfolding write_label
 returns c =
     let sheet : is_sheet c.args.sheet ≡ true = sym c.is_sheet.ensures ∙ c.if-not-is_sheet.false in
     let label : c.as_slice.result.now ≡ label_of c.args.sheet = c.as_slice.ensures ∙ c.put_sheet.ensures in
-    let e = rw label at c.lay.ensures in
-    record { result_value = rw sheet e.result_value; room_after = rw sheet e.room_after }
+    let e = c.lay.ensures in
+    record { result_value = rw (sheet, ← label) e.result_value; room_after = rw (sheet, ← label) e.room_after }

@@ -11,12 +11,12 @@ use Rattle.rows.proofs.row.put_ground.Goals as goal
 pub put_long-b-requires : goal.put_long-b-requires
 put_long-b-requires c =
     let few : length (decimal c.args.sheet) ≤ 7 = decimal-most 6 c.args.sheet c.requires.sheet_bound (omega arith) in
-    record { few = omega arith; fits = omega (arith, c.requires.at_in_bounds, few, c.put_byte-a.ensures.end, c.put_byte-a.auto.room) }
+    record { few = omega arith; fits = omega (arith, c.requires.at_in_bounds, few, c.put_byte-a.ensures.end, c.put_byte-a.auto.out) }
 
 pub put_edges-requires : goal.put_edges-requires
 put_edges-requires c =
     let few : length (decimal c.args.sheet) ≤ 7 = decimal-most 6 c.args.sheet c.requires.sheet_bound (omega arith) in
-    record { in_hundreds = c.requires.in_hundreds; at_in_bounds = omega (arith, c.requires.at_in_bounds, few, c.put_byte-a.ensures.end, c.put_byte-a.auto.room, c.put_long-b.ensures.end, c.put_long-b.auto.out) }
+    record { in_hundreds = c.requires.in_hundreds; at_in_bounds = omega (arith, c.requires.at_in_bounds, few, c.put_byte-a.ensures.end, c.put_byte-a.auto.out, c.put_long-b.ensures.end, c.put_long-b.auto.out) }
 
 pub returns : goal.returns
 returns c =

@@ -15,13 +15,13 @@ use Rattle.rows.proofs.row.put_refusal.Goals as goal
 pub put_spaced-b-requires : goal.put_spaced-b-requires
 put_spaced-b-requires c =
     let few : length (decimal c.numbered-told.result.number) ≤ 10 = decimal-most 9 c.numbered-told.result.number (omega arith) (omega arith) in
-    omega (arith, few, c.put-a.ensures.end, c.put-a.auto.room)
+    omega (arith, few, c.put-a.ensures.end, c.put-a.auto.out)
 
 pub put_spaced-requires : goal.put_spaced-requires
 put_spaced-requires c =
     let few : length (decimal c.numbered-told.result.number) ≤ 10 = decimal-most 9 c.numbered-told.result.number (omega arith) (omega arith) in
     let few-digits : length (decimal c.in-Some.value) ≤ 20 = decimal-most 19 c.in-Some.value (grind arith) (grind arith) in
-    omega (arith, few, few-digits, c.put-a.ensures.end, c.put-a.auto.room, c.put_spaced-b.ensures.end, c.put_spaced-b.auto.out)
+    omega (arith, few, few-digits, c.put-a.ensures.end, c.put-a.auto.out, c.put_spaced-b.ensures.end, c.put_spaced-b.auto.out)
 
 pub returns-in-Some : goal.returns-in-Some
 unfolding text
