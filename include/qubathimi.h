@@ -2,7 +2,7 @@
  * lines, official names, local numbers, holdings and shelf lists.
  *
  * `rt lib` in crates/qubathimi_c proves the functions and writes out/libqubathimi_c.a there, for x86-64 Linux; link it with a program
- * that includes this header. Of the C library it calls memcpy, memmove and memset and nothing else. It allocates nothing, needs no setting up and
+ * that includes this header. Of the C library it calls memcpy and memset and nothing else. It allocates nothing, needs no setting up and
  * keeps nothing between calls, so any number of them may run at once. examples/use.c shows it in use. docs/DEFINITION.md says what sheets,
  * labels and lists are; "document 01" and "document 02" are the papers that it tells of.
  *

@@ -84,7 +84,7 @@ pub(crate) fn entries() -> [Entry; 15]
 pub(crate) fn name_of(sheet: u32) -> Option<&'static [u8]>
     ensures { option_map (λ name. name.now) result ≡ name_of sheet }
 {
-    for entry in &entries() {
+    for &entry in &entries() {
         if entry.sheet == sheet {
             return Some(entry.name);
         }

@@ -150,13 +150,25 @@ one-numbering {why} {a} {b} x y = λ i. record { number = number i; value = valu
     value : a.value ≡ b.value
     value = same_carried a.value b.value (cc) (x.carried ∙ ap carries number ∙ sym y.carried)
 
--- the paper gives an answer back, so two answers that meet one contract, `paper r ≡ definition`, are the same
-given_back : {A : Type 0} (r : Result A Refusal) → read Ok Err (paper r) ≡ r
-given_back (Ok answered) = refl
-given_back (Err why) = read-refusal Ok Err why
+-- a kind of answer that its word on paper gives back
+pub record Told {A X : Type 0} (word : A → Paper X) : Type 0 where
+  pub back : Paper X → A
+  pub again : (a : A) → back (word a) ≡ a
+
+-- so two answers that meet one contract, `word r ≡ definition`, are the same
+pub two-told : {A X : Type 0} {word : A → Paper X} → Told word → {a b : A} {d : Paper X} → word a ≡ d → word b ≡ d → a ≡ b
+two-told t {a} {b} e f = sym (t.again a) ∙ ap t.back (e ∙ sym f) ∙ t.again b
+
+-- what the code answers is such a kind, whatever is answered
+pub paper-told : {A : Type 0} → Told (paper {A = A})
+paper-told = record { back = read Ok Err; again = again }
+  where
+    again : {A : Type 0} (r : Result A Refusal) → read Ok Err (paper r) ≡ r
+    again (Ok answered) = refl
+    again (Err why) = read-refusal Ok Err why
 
 pub coincide : {A : Type 0} {a b : Result A Refusal} {d : Paper A} → paper a ≡ d → paper b ≡ d → a ≡ b
-coincide {a = a} {b} e f = sym (given_back a) ∙ ap (read Ok Err) (e ∙ sym f) ∙ given_back b
+coincide e f = two-told paper-told e f
 
 -- ---- what is answered has passed every line in front of it, and a line that refuses decides
 
