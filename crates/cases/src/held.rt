@@ -10,7 +10,7 @@ pub(crate) fn together(to: &mut impl Write, s: &[u8]) -> io::Result<()> {
 
 pub(crate) fn apart(to: &mut impl Write, s: &[u8]) -> io::Result<()> {
     match holding_parts(small(s, 1)) {
-        Ok(parts) => write!(to, " {} {}", parts.sheet, parts.product),
+        Ok(parts) => write::numbers(to, [parts.sheet, parts.product]),
         Err(why) => write::refused(to, why),
     }
 }

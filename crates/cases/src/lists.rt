@@ -144,7 +144,8 @@ fn back<L: Listed>(to: &mut impl Write, n: usize, places: &[u8], count: usize) -
 
 // Reads a list in room for so many sheets.
 fn reading<L: Listed>(to: &mut impl Write, bytes: &[u8], size: usize) -> io::Result<()> {
-    write!(to, " from {} in {size}", bytes.len())?;
+    write::named(to, b" from", bytes.len())?;
+    write::named(to, b" in", size)?;
     if size > FEW {
         return reading_many::<L>(to, bytes, size);
     }
@@ -163,7 +164,7 @@ fn read_in<L: Listed>(to: &mut impl Write, bytes: &[u8], places: &mut [u32]) -> 
         Ok(()) => to.write_all(b" whole"),
         Err(why) => write::refused(to, why),
     }?;
-    write!(to, " placed {placed}")?;
+    write::named(to, b" placed", placed)?;
     room::show(to, placed, places)
 }
 

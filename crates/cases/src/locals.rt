@@ -32,9 +32,9 @@ fn asked(to: &mut impl Write, s: &[u8], sheets: &[u32]) -> io::Result<()> {
     write::answer(to, local_to_sheet(sheets, asked))?;
     to.write_all(b",")?;
     match sheet_to_local(sheets, small(s, 4)) {
-        Ok(Local::One(n)) => write!(to, " {n}"),
-        Ok(Local::Two(n, a)) => write!(to, " {n} {a}"),
-        Ok(Local::Three(n, a, b)) => write!(to, " {n} {a} {b}"),
+        Ok(Local::One(n)) => write::numbers(to, [n]),
+        Ok(Local::Two(n, a)) => write::numbers(to, [n, a]),
+        Ok(Local::Three(n, a, b)) => write::numbers(to, [n, a, b]),
         Err(why) => write::refused(to, why),
     }
 }

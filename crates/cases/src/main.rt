@@ -21,6 +21,7 @@ mod write;
 ghost use Rattle.std.specs.Prelude.{◌≤◌, length};
 
 use std::io::Read;
+use write::Out;
 
 // Room for the questions: 256 KiB.
 const TEXT: usize = 262_144;
@@ -28,8 +29,7 @@ const TEXT: usize = 262_144;
 fn main(rt: HostRuntime) {
     let mut text = [0u8; TEXT];
     let n = taken(&mut rt.stdin(), &mut text);
-    // where standard output takes no more, there is nobody to tell
-    let _ = ask::lines(&mut rt.stdout(), part::before(&text, n));
+    let _ = ask::lines(&mut Out(rt.stdout()), part::before(&text, n));
 }
 
 // Reads the input to its end, or as much of it as there is room for or as can be read, and gives how many bytes that is.

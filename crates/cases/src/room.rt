@@ -17,8 +17,8 @@ impl Item for u8 {
     const MARK: u8 = MARK;
 
     fn show(bytes: &[u8], to: &mut impl Write) -> io::Result<()> {
-        for b in bytes {
-            write!(to, "{b:02x}")?;
+        for &b in bytes {
+            write::hexadecimal(to, b)?;
         }
         Ok(())
     }
@@ -28,8 +28,8 @@ impl Item for u32 {
     const MARK: u32 = NO_SHEET;
 
     fn show(sheets: &[u32], to: &mut impl Write) -> io::Result<()> {
-        for n in sheets {
-            write!(to, " {n}")?;
+        for &n in sheets {
+            write::number(to, n)?;
         }
         Ok(())
     }
@@ -75,7 +75,7 @@ pub(crate) fn show<T: Item>(to: &mut impl Write, n: usize, places: &[T]) -> io::
     if n > LISTED {
         let mut sum = SUM;
         T::show(items, &mut sum)?;
-        write!(to, " sum {}", sum.value)?;
+        write::named(to, b" sum", sum.value)?;
     } else {
         T::show(items, to)?;
     }
@@ -85,5 +85,5 @@ pub(crate) fn show<T: Item>(to: &mut impl Write, n: usize, places: &[T]) -> io::
 // How many places behind the first so many hold the mark.
 pub(crate) fn kept<T: Item>(to: &mut impl Write, n: usize, places: &[T]) -> io::Result<()> {
     let held = places.iter().skip(n).filter(|&p| *p == T::MARK).count();
-    write!(to, " kept {held}")
+    write::named(to, b" kept", held)
 }

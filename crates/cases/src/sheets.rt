@@ -10,9 +10,9 @@ use std::io::{self, Write};
 // Width and height in metres, first and last sheet; and the last scale and the last sheet of all.
 pub(crate) fn table(to: &mut impl Write, s: &[u8]) -> io::Result<()> {
     let scale = Scale(small(s, 1));
-    write!(to, " {} {}", scale.width(), scale.height())?;
-    write!(to, " {} {}", scale.first(), scale.last())?;
-    write!(to, " {} {}", Scale::LAST, Scale::LAST_SHEET)
+    write::numbers(to, [scale.width(), scale.height()])?;
+    write::numbers(to, [scale.first(), scale.last()])?;
+    write::numbers(to, [Scale::LAST, Scale::LAST_SHEET])
 }
 
 // And the sheets around it, a hyphen for none: rows from the north.
@@ -35,7 +35,7 @@ pub(crate) fn number(to: &mut impl Write, s: &[u8]) -> io::Result<()> {
 pub(crate) fn told(to: &mut impl Write, n: u32) -> io::Result<()> {
     match sheet::locate(n) {
         Ok(at) => {
-            write!(to, " {} {} {}", at.scale, at.place.row, at.place.column)?;
+            write::numbers(to, [at.scale, at.place.row, at.place.column])?;
             write::answer(to, sheet::sheet_on(at.scale, at.place))
         }
         Err(why) => write::refused(to, why),
@@ -43,7 +43,7 @@ pub(crate) fn told(to: &mut impl Write, n: u32) -> io::Result<()> {
     to.write_all(b",")?;
     match sheet::corners_of(n) {
         Ok(e) => {
-            write!(to, " {} {} {} {}", e.west, e.east, e.south, e.north)?;
+            write::numbers(to, [e.west, e.east, e.south, e.north])?;
             write::answer(to, sheet::sheet_at(Scale::of(n).0, e.west, e.north))
         }
         Err(why) => write::refused(to, why),
@@ -73,7 +73,7 @@ pub(crate) fn step(to: &mut impl Write, s: &[u8]) -> io::Result<()> {
 // East and south.
 pub(crate) fn from(to: &mut impl Write, s: &[u8]) -> io::Result<()> {
     match kin::offset(small(s, 1), small(s, 2)) {
-        Ok(apart) => write!(to, " {} {}", apart.east, apart.south),
+        Ok(apart) => write::numbers(to, [apart.east, apart.south]),
         Err(why) => write::refused(to, why),
     }
 }
