@@ -61,7 +61,11 @@ pub fn sheet_at_metres(scale: u32, e: f64, n: f64) -> Result<u32, Refusal>
     if !(in_reach(e) & in_reach(n)) {
         return Err(Refusal::PointOutside);
     }
-    sheet_at(scale, down(e), up(n))
+    // hand the answer on by its parts: to copy it whole can cost as much as to find it
+    match sheet_at(scale, down(e), up(n)) {
+        Ok(sheet) => Ok(sheet),
+        Err(why) => Err(why),
+    }
 }
 
 // The frame of that sheet.
