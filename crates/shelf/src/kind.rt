@@ -23,6 +23,7 @@ pub trait Kind {
 }
 
 // Document 01's lists have sheets.
+#[derive(Clone, Copy)]
 pub struct Sheets;
 
 impl Kind for Sheets {
@@ -41,6 +42,7 @@ impl Kind for Sheets {
 }
 
 // And document 02's have holdings.
+#[derive(Clone, Copy)]
 pub struct Holdings;
 
 impl Kind for Holdings {
