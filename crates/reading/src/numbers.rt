@@ -13,6 +13,12 @@ struct Run {
     end: usize,
 }
 
+fn is_digit(b: u8) -> bool
+    ensures { result ≡ is_digit b }
+{
+    b.is_ascii_digit()
+}
+
 fn has_hyphen(bytes: &[u8], at: usize) -> bool
     ensures { result ≡ (get_or bytes.now at 0 =? 45) }
 {
@@ -29,7 +35,7 @@ fn digits(bytes: &[u8], at: usize, front: u64) -> Run
     let mut value = front;
     for i in at..bytes.len() {
         let b = bytes[i];
-        if !b.is_ascii_digit() {
+        if !is_digit(b) {
             return Run { value, end: i };
         }
         value = value * 10 + u64::from(b - b'0');
@@ -57,7 +63,7 @@ fn field(bytes: &[u8], first: u8, at: usize) -> Run
         return alone;
     }
     let b = bytes[at];
-    if !b.is_ascii_digit() {
+    if !is_digit(b) {
         return alone;
     }
     if first == b'0' {
@@ -76,7 +82,7 @@ pub(crate) fn numbers_in(bytes: &[u8], numbers: &mut ArrayVec<u64, 8>) -> Option
     let mut start: usize = 0; // by hand, since the step is a field's length, which no range has
     while start < bytes.len() {
         let first = bytes[start];
-        if !first.is_ascii_digit() {
+        if !is_digit(first) {
             return None;
         }
         let run = field(bytes, first, start + 1);

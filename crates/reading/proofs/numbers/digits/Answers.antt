@@ -3,10 +3,10 @@ use Rattle.std.proofs.Common.{◌≡◌, sym, ◌∙◌, length, arith}
 use Rattle.reading.proofs.DigitLaws.{sixteen, digit-few, reads_on, ends_at, ends-out}
 use Rattle.reading.proofs.numbers.digits.Goals as goal
 
-pub returns-then-not-is_ascii_digit : goal.returns-then-not-is_ascii_digit
-returns-then-not-is_ascii_digit c =
+pub returns-then-not-is_digit : goal.returns-then-not-is_digit
+returns-then-not-is_digit c =
     let m = c.loop-i in
-    ends_at _ m.i m.value c.loop-i-test.true (sym c.is_ascii_digit.ensures.value ∙ c.if-not-is_ascii_digit.true) ∙ m.invariant.rest
+    ends_at _ m.i m.value c.loop-i-test.true (sym c.is_digit.ensures ∙ c.if-not-is_digit.true) ∙ m.invariant.rest
 
 pub overflow_mul-value : goal.overflow_mul-value
 overflow_mul-value c = omega (arith, sixteen c.loop-i.invariant c.loop-i-test.true)
@@ -14,11 +14,11 @@ overflow_mul-value c = omega (arith, sixteen c.loop-i.invariant c.loop-i-test.tr
 pub overflow_add-value : goal.overflow_add-value
 overflow_add-value c =
     let w = c.loop-i.invariant in
-    omega (arith, sixteen w c.loop-i-test.true, digit-few w c.loop-i-test.true (sym c.is_ascii_digit.ensures.value ∙ c.if-not-is_ascii_digit.false))
+    omega (arith, sixteen w c.loop-i-test.true, digit-few w c.loop-i-test.true (sym c.is_digit.ensures ∙ c.if-not-is_digit.false))
 
 pub loop-i-preserved : goal.loop-i-preserved
 loop-i-preserved c =
-    rw c.from.ensures (reads_on c.loop-i.invariant c.loop-i-test.true (sym c.is_ascii_digit.ensures.value ∙ c.if-not-is_ascii_digit.false))
+    rw c.from.ensures (reads_on c.loop-i.invariant c.loop-i-test.true (sym c.is_digit.ensures ∙ c.if-not-is_digit.false))
 
 pub returns : goal.returns
 returns c =

@@ -15,24 +15,24 @@ returns-then-at-bytes c =
     let a = c.args in
     rw c.from-front.ensures (alone-out a.bytes.now a.first a.at (omega (arith, c.if-at-bytes.true)))
 
-pub returns-then-not-is_ascii_digit : goal.returns-then-not-is_ascii_digit
-returns-then-not-is_ascii_digit c =
+pub returns-then-not-is_digit : goal.returns-then-not-is_digit
+returns-then-not-is_digit c =
     let behind : let a = c.args in a.at < length a.bytes.now = omega (arith, c.requires.at_in_bounds, c.if-at-bytes.false) in
-    let no_digit : let a = c.args in is_digit (get_or a.bytes.now a.at 0) ≡ false = sym c.is_ascii_digit.ensures.value ∙ c.if-not-is_ascii_digit.true in
+    let no_digit : let a = c.args in is_digit (get_or a.bytes.now a.at 0) ≡ false = sym c.is_digit.ensures ∙ c.if-not-is_digit.true in
     let a = c.args in
     rw c.from-front.ensures (alone_at a.bytes.now a.first a.at behind no_digit)
 
 pub returns-then-first-eq48 : goal.returns-then-first-eq48
 returns-then-first-eq48 c =
     let behind : let a = c.args in a.at < length a.bytes.now = omega (arith, c.requires.at_in_bounds, c.if-at-bytes.false) in
-    let digit : let a = c.args in is_digit (get_or a.bytes.now a.at 0) ≡ true = sym c.is_ascii_digit.ensures.value ∙ c.if-not-is_ascii_digit.false in
+    let digit : let a = c.args in is_digit (get_or a.bytes.now a.at 0) ≡ true = sym c.is_digit.ensures ∙ c.if-not-is_digit.false in
     let a = c.args in
     leads a.bytes.now a.first a.at behind digit c.if-first-eq48.true
 
 pub digits-requires : goal.digits-requires
 digits-requires c =
     let behind : let a = c.args in a.at < length a.bytes.now = omega (arith, c.requires.at_in_bounds, c.if-at-bytes.false) in
-    let digit : let a = c.args in is_digit (get_or a.bytes.now a.at 0) ≡ true = sym c.is_ascii_digit.ensures.value ∙ c.if-not-is_ascii_digit.false in
+    let digit : let a = c.args in is_digit (get_or a.bytes.now a.at 0) ≡ true = sym c.is_digit.ensures ∙ c.if-not-is_digit.false in
     let small : c.from-front.result * 10 + c.from.result < 100 = let a = c.args in
     let first = between_in 48 57 a.first c.requires.first_value in
     let second = between_in 48 57 (get_or a.bytes.now a.at 0) digit in
@@ -44,6 +44,6 @@ digits-requires c =
 pub returns : goal.returns
 returns c =
     let behind : let a = c.args in a.at < length a.bytes.now = omega (arith, c.requires.at_in_bounds, c.if-at-bytes.false) in
-    let digit : let a = c.args in is_digit (get_or a.bytes.now a.at 0) ≡ true = sym c.is_ascii_digit.ensures.value ∙ c.if-not-is_ascii_digit.false in
+    let digit : let a = c.args in is_digit (get_or a.bytes.now a.at 0) ≡ true = sym c.is_digit.ensures ∙ c.if-not-is_digit.false in
     let a = c.args in
     c.digits.ensures ∙ rw (c.from-front.ensures, c.from.ensures) (goes_on a.bytes.now a.first a.at behind digit c.if-first-eq48.false)
